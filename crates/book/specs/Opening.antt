@@ -1,0 +1,29 @@
+-- What open promises. Assumes nothing.
+use mathlib.Core.Path.{_≡_}
+use Rattle.std.specs.declared.option.Option.the-variants.{Some, None}
+use Rattle.std.specs.declared.result.Result.{Result}
+use Rattle.std.specs.declared.result.Result.the-variants.{Ok, Err}
+use Rattle.records.specs.declared.call.Terms.{Terms}
+use Rattle.records.specs.declared.fault.Fault.{Fault}
+use Rattle.records.specs.Refusals.{due, Smallest}
+use Rattle.records.specs.State.{opened}
+use Rattle.records.specs.Calls.{terms-input}
+use Rattle.book.specs.declared.fault.OpenFault.{OpenFault}
+use Rattle.book.specs.declared.fault.OpenFault.the-variants.{Refused, OutOfMemory}
+use Rattle.book.specs.declared.tables.Book.{Book}
+use Rattle.book.specs.View.{state}
+
+abbrev pub refused : Fault → OpenFault
+refused fault = Refused fault
+
+abbrev pub out-of-memory : OpenFault
+out-of-memory = OutOfMemory
+
+module _ {R C : Type 0} where
+  -- With a fault due, the one of the smallest number is answered. With none, the book is empty and stands on its terms,
+  -- unless there is no memory for its tables.
+  abbrev pub Opens : R → C → Terms → Result (Book R C) OpenFault → Type 0
+  Opens rule calendar terms (Ok book) = (due (terms-input terms) ≡ None) × (state book ≡ opened rule calendar terms)
+  Opens rule calendar terms (Err (Refused fault)) =
+      (due (terms-input terms) ≡ Some fault) × Smallest (terms-input terms) (Some fault)
+  Opens rule calendar terms (Err OutOfMemory) = due (terms-input terms) ≡ None
