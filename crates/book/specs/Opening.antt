@@ -5,7 +5,7 @@ use Rattle.std.specs.declared.result.Result.{Result}
 use Rattle.std.specs.declared.result.Result.the-variants.{Ok, Err}
 use Rattle.records.specs.declared.call.Terms.{Terms}
 use Rattle.records.specs.declared.fault.Fault.{Fault}
-use Rattle.records.specs.Refusals.{due, Smallest}
+use Rattle.records.specs.Refusals.{rank, due, Smallest}
 use Rattle.records.specs.State.{opened}
 use Rattle.records.specs.Calls.{terms-input}
 use Rattle.book.specs.declared.fault.OpenFault.{OpenFault}
@@ -25,5 +25,5 @@ module _ {R C : Type 0} where
   abbrev pub Opens : R → C → Terms → Result (Book R C) OpenFault → Type 0
   Opens rule calendar terms (Ok book) = (due (terms-input terms) ≡ None) × (state book ≡ opened rule calendar terms)
   Opens rule calendar terms (Err (Refused fault)) =
-      (due (terms-input terms) ≡ Some fault) × Smallest (terms-input terms) (Some fault)
+      (due (terms-input terms) ≡ Some fault) × Smallest rank (terms-input terms) (Some fault)
   Opens rule calendar terms (Err OutOfMemory) = due (terms-input terms) ≡ None

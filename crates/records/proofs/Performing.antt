@@ -10,21 +10,21 @@ use Rattle.records.specs.declared.answer.Answer.{Answer}
 use Rattle.records.specs.declared.call.Call.{Call}
 use Rattle.records.specs.declared.call.Call.the-variants.{Admit, Post, Return, Query}
 use Rattle.records.specs.declared.fault.Fault.{Fault}
-use Rattle.records.specs.Refusals.{due, Smallest, cleared}
+use Rattle.records.specs.Refusals.{rank, due, Smallest, cleared}
 use Rattle.records.specs.State.{State}
 use Rattle.records.specs.Capacity.{position}
 use Rattle.records.specs.Calls.{input, against, causes, carried, participant-of, Performs}
 use Rattle.records.proofs.Refusing.{due-smallest, due-first, due-second, rises, none-due, one-due}
 
 module _ {R C : Type 0} where
-  in-order : (call : Call) (s : State R C) → rises (causes call s) ≡ true
+  in-order : (call : Call) (s : State R C) → rises rank (causes call s) ≡ true
   in-order (Admit participant vat share) s = refl
   in-order (Post participant guarantee last-day cents) s = refl
   in-order (Return participant guarantee) s = refl
   in-order (Query participant) s = refl
 
-  smallest-due : (call : Call) (s : State R C) → Smallest (causes call s) (due (causes call s))
-  smallest-due call s = due-smallest (causes call s) (in-order call s)
+  smallest-due : (call : Call) (s : State R C) → Smallest rank (causes call s) (due (causes call s))
+  smallest-due call s = due-smallest rank (causes call s) (in-order call s)
 
   refused : (call : Call) (f : Fault) (s t : State R C) → due (causes call s) ≡ Some f → t ≡ s → Performs call s (Err f) t
   refused call f s t e same = record { smallest = smallest-due call s; outcome = rw e (refl, same) }

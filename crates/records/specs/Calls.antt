@@ -19,7 +19,7 @@ use Rattle.records.specs.declared.fault.Fault.{Fault}
 use Rattle.records.specs.declared.fault.Fault.the-variants.{NumberOutOfRange, PriceOutOfRange, RateOutOfRange, AmountOutOfRange, DayOutOfRange, UnknownParticipant, AlreadyAdmitted, UnknownGuarantee, NumberUsed, DayPast, TableFull}
 use Rattle.records.specs.declared.rows.Participant.{Participant}
 use Rattle.records.specs.declared.rows.Guarantee.{Guarantee}
-use Rattle.records.specs.Refusals.{Cause, _when_, due, outside, Smallest}
+use Rattle.records.specs.Refusals.{Cause, _when_, rank, due, outside, Smallest}
 use Rattle.records.specs.Tables.{find, change, remove}
 use Rattle.records.specs.Rows.{is-participant, is-guarantee, valid}
 use Rattle.records.specs.State.{State, with-tables}
@@ -36,7 +36,7 @@ day-outside (Some day) = outside 0 40000 day
 
 -- What can be wrong with the terms by themselves. The places are those of a line: the letter, the market, the margin, the
 -- first day and the reference price.
-abbrev pub terms-input : Terms → List Cause
+abbrev pub terms-input : Terms → List (Cause Fault)
 terms-input terms =
     (PriceOutOfRange 5 when price-outside (terms .reference)) ∷
     (RateOutOfRange 3 when outside 0 99 (terms .margin)) ∷
@@ -44,7 +44,7 @@ terms-input terms =
 
 -- What can be wrong with a call's arguments by themselves. A participant's number is from 1 to 65,535, a guarantee's from 1
 -- to 4,294,967,295, an amount from 1 to 100,000,000,000 cents.
-abbrev pub input : Call → List Cause
+abbrev pub input : Call → List (Cause Fault)
 input (Admit participant vat share) =
     (NumberOutOfRange 2 when outside 1 65535 participant) ∷
     (RateOutOfRange 3 when outside 0 99 vat) ∷
@@ -96,35 +96,35 @@ module _ {R C : Type 0} where
   known s participant = isSome (find (is-participant participant) (s .participants))
 
   -- what can be wrong with a call in the state of the book
-  abbrev pub not-admissible : State R C → ℕ → List Cause
+  abbrev pub not-admissible : State R C → ℕ → List (Cause Fault)
   not-admissible s participant =
       (AlreadyAdmitted when known s participant) ∷
       (TableFull when leb 32 (length (s .participants))) ∷ []
 
   -- a guarantee is too late when it is no longer valid today
-  abbrev pub not-postable : State R C → ℕ → ℕ → Option ℕ → List Cause
+  abbrev pub not-postable : State R C → ℕ → ℕ → Option ℕ → List (Cause Fault)
   not-postable s participant guarantee last-day =
       (UnknownParticipant when not (known s participant)) ∷
       (NumberUsed when leb guarantee (last-guarantee (find (is-participant participant) (s .participants)))) ∷
       (DayPast when not (valid (s .today) last-day)) ∷
       (TableFull when leb 64 (length (s .guarantees))) ∷ []
 
-  abbrev pub not-returnable : State R C → ℕ → ℕ → List Cause
+  abbrev pub not-returnable : State R C → ℕ → ℕ → List (Cause Fault)
   not-returnable s participant guarantee =
       (UnknownParticipant when not (known s participant)) ∷
       (UnknownGuarantee when not (isSome (find (is-guarantee participant guarantee) (s .guarantees)))) ∷ []
 
-  abbrev pub not-known : State R C → ℕ → List Cause
+  abbrev pub not-known : State R C → ℕ → List (Cause Fault)
   not-known s participant = (UnknownParticipant when not (known s participant)) ∷ []
 
-  abbrev pub against : Call → State R C → List Cause
+  abbrev pub against : Call → State R C → List (Cause Fault)
   against (Admit participant vat share) s = not-admissible s participant
   against (Post participant guarantee last-day cents) s = not-postable s participant guarantee last-day
   against (Return participant guarantee) s = not-returnable s participant guarantee
   against (Query participant) s = not-known s participant
 
   -- all that a call can be refused for
-  abbrev pub causes : Call → State R C → List Cause
+  abbrev pub causes : Call → State R C → List (Cause Fault)
   causes call s = input call ++ against call s
 
   -- the book after a call that is carried out
@@ -146,5 +146,5 @@ module _ {R C : Type 0} where
   -- What a call promises, from the book before it to the book after it: with a fault due it answers that fault, the one of
   -- the smallest number, and the book stays; with none due it is carried out and answers the position after it.
   pub record Performs (call : Call) (before : State R C) (r : Result Answer Fault) (after : State R C) : Type 0 where
-    pub smallest : Smallest (causes call before) (due (causes call before))
+    pub smallest : Smallest rank (causes call before) (due (causes call before))
     pub outcome : Outcome call before (due (causes call before)) r after

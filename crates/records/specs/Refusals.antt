@@ -34,45 +34,50 @@ refusal DayPast = of-book 215 0
 refusal TableFull = of-book 216 0
 
 -- A reason to refuse a call: the fault, and whether its condition holds.
-pub record Cause : Type 0 where
-  pub fault : Fault
+pub record Cause (F : Type 0) : Type 0 where
+  pub fault : F
   pub present : Bool
 
 infix 4 _when_
-abbrev pub _when_ : Fault → Bool → Cause
+
+abbrev pub _when_ : {F : Type 0} → F → Bool → Cause F
 fault when present = record { fault = fault; present = present }
 
--- The fault due: the first whose condition holds. Every table of causes lists its numbers rising, and the fields of one
--- number from left to right, so that this is the smallest number with its leftmost place (`Smallest`).
-abbrev pub due : List Cause → Option Fault
-due [] = None
-due (cause ∷ causes) = cond (cause .present) (Some (cause .fault)) (due causes)
+-- the order in which refusals are answered: by number, then by place
+abbrev pub order : Refusal → ℕ
+order r = r .number * 256 + r .place
 
--- the order of refusals: by number, then by place
 abbrev pub rank : Fault → ℕ
-rank fault = refusal fault .number * 256 + refusal fault .place
+rank fault = order (refusal fault)
 
--- the fault is in the table, and its condition holds
-abbrev pub Present : Fault → List Cause → Type 0
-Present fault [] = ⊥
-Present fault (cause ∷ causes) = (cause ≡ (fault when true)) ⊎ Present fault causes
+module _ {F : Type 0} where
+  -- The fault due: the first whose condition holds. Every table of causes lists its numbers rising, and the fields of one
+  -- number from left to right, so that this is the smallest number with its leftmost place (`Smallest`).
+  abbrev pub due : List (Cause F) → Option F
+  due [] = None
+  due (cause ∷ causes) = cond (cause .present) (Some (cause .fault)) (due causes)
 
--- A fault is the right one to answer when its condition holds, and every other whose condition holds has a larger number,
--- or the same number at a place further right; none is right only when no condition holds.
-abbrev pub Smallest : List Cause → Option Fault → Type 0
-Smallest causes None = All (λ cause. cause .present ≡ false) causes
-Smallest causes (Some fault) =
+  -- the fault is in the table, and its condition holds
+  abbrev pub Present : F → List (Cause F) → Type 0
+  Present fault [] = ⊥
+  Present fault (cause ∷ causes) = (cause ≡ (fault when true)) ⊎ Present fault causes
+
+  -- A fault is the right one to answer when its condition holds, and every other whose condition holds has a larger number,
+  -- or the same number at a place further right; none is right only when no condition holds.
+  abbrev pub Smallest : (F → ℕ) → List (Cause F) → Option F → Type 0
+  Smallest rank causes None = All (λ cause. cause .present ≡ false) causes
+  Smallest rank causes (Some fault) =
     Present fault causes × All (λ cause. cause .present ≡ true → rank fault ≤ rank (cause .fault)) causes
 
--- what a check answers: nothing, or the fault due
-abbrev pub cleared : Option Fault → Result (Unit {0}) Fault
-cleared None = Ok tt
-cleared (Some fault) = Err fault
+  -- what a check answers: nothing, or the fault due
+  abbrev pub cleared : Option F → Result (Unit {0}) F
+  cleared None = Ok tt
+  cleared (Some fault) = Err fault
 
--- the check of one condition
-abbrev pub fault-if : Bool → Fault → Result (Unit {0}) Fault
-fault-if true fault = Err fault
-fault-if false fault = Ok tt
+  -- the check of one condition
+  abbrev pub fault-if : Bool → F → Result (Unit {0}) F
+  fault-if true fault = Err fault
+  fault-if false fault = Ok tt
 
 -- a number outside least to most
 unfoldable pub outside : ℕ → ℕ → ℕ → Bool
