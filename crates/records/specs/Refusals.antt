@@ -39,7 +39,6 @@ pub record Cause (F : Type 0) : Type 0 where
   pub present : Bool
 
 infix 4 _when_
-
 abbrev pub _when_ : {F : Type 0} → F → Bool → Cause F
 fault when present = record { fault = fault; present = present }
 
@@ -67,7 +66,7 @@ module _ {F : Type 0} where
   abbrev pub Smallest : (F → ℕ) → List (Cause F) → Option F → Type 0
   Smallest rank causes None = All (λ cause. cause .present ≡ false) causes
   Smallest rank causes (Some fault) =
-    Present fault causes × All (λ cause. cause .present ≡ true → rank fault ≤ rank (cause .fault)) causes
+      Present fault causes × All (λ cause. cause .present ≡ true → rank fault ≤ rank (cause .fault)) causes
 
   -- what a check answers: nothing, or the fault due
   abbrev pub cleared : Option F → Result (Unit {0}) F
