@@ -2,6 +2,7 @@
 mod fields;
 mod lines;
 mod numbers;
+mod stream;
 
 pub use fields::Field;
 pub use fields::Reader;
@@ -17,6 +18,8 @@ pub use numbers::last_day;
 pub use numbers::letter;
 pub use numbers::number;
 pub use numbers::price;
+pub use stream::LineStart;
+pub use stream::first_line;
 
 #[cfg(test)]
 mod tests {
