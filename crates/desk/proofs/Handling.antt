@@ -2,10 +2,10 @@
 use mathlib.Core.Path.{_≡_, refl, sym, ap, subst, _∙_}
 use mathlib.Core.Bool.{Bool, true, false, cond}
 use mathlib.Core.List.{List, [], _∷_, _++_}
-use Prim.Native.Nat.{ℕ, _≤_, _<_}
+use Prim.Native.Nat.{ℕ, _+_, _≤_, _<_}
 use native.Mathlib.Omega.{arith}
 use lib.Dec.{ltb}
-use lib.ListN.{length}
+use lib.ListN.{length, drop, length-append}
 use Rattle.std.specs.declared.option.Option.{Option}
 use Rattle.std.specs.declared.option.Option.the-variants.{Some, None}
 use Rattle.std.specs.declared.result.Result.{Result}
@@ -90,3 +90,9 @@ module _ (number : ℕ) (line buffer : List ℕ) (before : Books) where
         answered = rw t (told-so ∙ ap (told reply) size);
         written = rw t wrote;
       }
+
+-- a text that stands at the front of a buffer, and leaves it as long as it was, lies within it
+pub lies-within : (buffer buffer′ text : List ℕ) → length buffer′ ≡ length buffer → buffer′ ≡ fronted text buffer → length text ≤ length buffer
+lies-within buffer buffer′ text long wrote =
+    let e : length buffer′ ≡ length text + length (drop (length text) buffer) = ap length wrote ∙ length-append text (drop (length text) buffer) in
+    omega arith

@@ -99,6 +99,11 @@ abbrev pub told : Result Answer LineFault → ℕ → Result ℕ Refused
 told (Ok answer) length = Ok length
 told (Err fault) length = Err (record { fault = fault; length = length })
 
+-- how many bytes the line call says that it wrote
+abbrev pub length-told : Result ℕ Refused → ℕ
+length-told (Ok length) = length
+length-told (Err refused) = refused .length
+
 -- The line call, from the buffer and the book before it to those after it: the line is handled by the fault due, and what is
 -- written for the reply stands at the buffer's front, with every byte after it as it was.
 pub record Answered (number : ℕ) (line buffer : List ℕ) (before : Books) (r : Result ℕ Refused) (buffer′ : List ℕ) (after : Books) : Type 0 where

@@ -9,7 +9,7 @@ ghost use Rattle.records.specs.Refusals.{due, Smallest};
 ghost use Rattle.wire.specs.Lines.{fronted};
 ghost use Rattle.desk.specs.Faults.{rank};
 ghost use Rattle.std.specs.Results.{isErr};
-ghost use Rattle.desk.specs.Lines.{book-of, Commanded, Handled, Answered, line-causes, causes, text};
+ghost use Rattle.desk.specs.Lines.{book-of, Commanded, Handled, Answered, line-causes, causes, text, length-told};
 use crate::command::Command;
 use crate::command::Market;
 use crate::command::Weeks;
@@ -104,6 +104,7 @@ impl Desk {
     ) -> Result<usize, Refused>
         ensures answered_or_refused_as_due { λ r. ⌜ Answered number (now (line .entry)) (now (buffer .entry)) (book-of (now (self .entry))) r (now (buffer .exit)) (book-of (now (self .exit))) ⌝ }
         ensures smallest_number_is_due { λ _. ⌜ Smallest rank (causes (length (now (buffer .entry))) (now (line .entry)) (book-of (now (self .entry)))) (due (causes (length (now (buffer .entry))) (now (line .entry)) (book-of (now (self .entry))))) ⌝ }
+        ensures length_lies_within_the_buffer { λ r. ⌜ length-told r ≤ length (now (buffer .entry)) ⌝ }
         ensures short_buffer_is_untouched { λ _. ⌜ (length (now (buffer .entry)) < 96 → now (buffer .exit) ≡ now (buffer .entry)) ⌝ }
         ensures scratch_list_is_untouched { λ _. ⌜ now (scratch .exit) ≡ now (scratch .entry) ⌝ }
         ensures refused_desk_is_unchanged { λ r. ⌜ (isErr r ≡ true → now (self .exit) ≡ now (self .entry)) ⌝ }

@@ -14,23 +14,23 @@ use Rattle.wire.specs.Stream.{Unbroken}
 -- a text is what stands before a byte, the byte, and what follows it
 pub around : (xs : List ℕ) (i : ℕ) → i < length xs → getD xs i 0 ≡ line-feed → xs ≡ take (i - 0) xs ++ line-feed ∷ take (length xs - (i + 1)) (drop (i + 1) xs)
 around xs i h e =
-  let front : i - 0 ≡ i = omega arith in
-  let rest : take (length xs - (i + 1)) (drop (i + 1) xs) ≡ drop (i + 1) xs = between-to-end xs (i + 1) (length xs) (omega arith) in
-  let more : drop i xs ≡ getD xs i 0 ∷ drop (i + 1) xs = rw add-one (drop-cons xs i 0 h) in
-  sym (take-append-drop i xs) ∙ rw (front, rest) (ap (λ ys. take i xs ++ ys) (more ∙ ap (λ b. b ∷ drop (i + 1) xs) e))
+    let front : i - 0 ≡ i = omega arith in
+    let rest : take (length xs - (i + 1)) (drop (i + 1) xs) ≡ drop (i + 1) xs = between-to-end xs (i + 1) (length xs) (omega arith) in
+    let more : drop i xs ≡ getD xs i 0 ∷ drop (i + 1) xs = rw add-one (drop-cons xs i 0 h) in
+    sym (take-append-drop i xs) ∙ rw (front, rest) (ap (λ ys. take i xs ++ ys) (more ∙ ap (λ b. b ∷ drop (i + 1) xs) e))
 
 -- nothing before the first line feed is one
 pub unbroken-before : (xs : List ℕ) (i : ℕ) → i ≤ length xs → ((k : ℕ) → k < i → getD xs k 0 ≡ line-feed → ⊥) → Unbroken (take (i - 0) xs)
 unbroken-before xs i h none k lt e =
-  let front : i - 0 ≡ i = omega arith in
-  let size = length-take (i - 0) xs in
-  let within : k < i = omega arith in
-  none k within (sym (getD-take (i - 0) xs k 0 (omega arith)) ∙ e)
+    let front : i - 0 ≡ i = omega arith in
+    let size = length-take (i - 0) xs in
+    let within : k < i = omega arith in
+    none k within (sym (getD-take (i - 0) xs k 0 (omega arith)) ∙ e)
 
 -- one more byte kept
 pub kept-more : (kept part : List ℕ) (i b : ℕ) → i < length part → b ≡ getD part i 0 → (kept ++ (b ∷ [])) ++ drop (i + 1) part ≡ kept ++ drop i part
 kept-more kept part i b h e =
-  append-assoc kept (b ∷ []) (drop (i + 1) part) ∙ ap (λ ys. kept ++ ys) (ap (λ x. x ∷ drop (i + 1) part) e ∙ sym (rw add-one (drop-cons part i 0 h)))
+    append-assoc kept (b ∷ []) (drop (i + 1) part) ∙ ap (λ ys. kept ++ ys) (ap (λ x. x ∷ drop (i + 1) part) e ∙ sym (rw add-one (drop-cons part i 0 h)))
 
 -- all that can be kept is kept, or all that came is
 pub kept-full : (kept rest : List ℕ) → length kept ≡ 81 → take 81 (kept ++ rest) ≡ kept
