@@ -3,11 +3,10 @@
 ghost use mathlib.Core.Path.{_≡_};
 ghost use Rattle.book.specs.Opening.{refused, out-of-memory};
 use records::Fault;
-use records::FaultDebug;
 use std::alloc::AllocError;
 
 /// Why a book is not opened: its terms are refused, or there is no memory for its tables.
-#[derive(Clone, Copy, Debug)]
+#[derive(Clone, Copy)]
 pub enum OpenFault {
     Refused(Fault),
     OutOfMemory,

@@ -6,7 +6,7 @@ ghost use Rattle.records.specs.Calls.{input, terms-input, day-outside, price-o
 use crate::fault::Fault;
 
 /// The terms on which a book is opened.
-#[derive(Clone, Copy, PartialEq, Eq, Debug)]
+#[derive(Clone, Copy)]
 pub struct Terms {
     /// The maintenance margin in percent.
     pub margin: u64,
@@ -16,7 +16,7 @@ pub struct Terms {
 }
 
 /// A call of an open book. Arguments are as wide as a line can write them; each call checks its own.
-#[derive(Clone, Copy, PartialEq, Eq, Debug)]
+#[derive(Clone, Copy)]
 pub enum Call {
     Admit {
         participant: u64,
@@ -38,35 +38,59 @@ pub enum Call {
     },
 }
 
-const MAX_PARTICIPANT: u64 = 65_535;
+/// The numbers from the least to the most.
+#[derive(Clone, Copy)]
+struct Range {
+    least: u64,
+    most: u64,
+}
 
-const MAX_NUMBER: u64 = 4_294_967_295;
+const PARTICIPANT: Range = Range {
+    least: 1,
+    most: 65_535,
+};
+
+const NUMBER: Range = Range {
+    least: 1,
+    most: 4_294_967_295,
+};
+
+const PERCENT: Range = Range { least: 0, most: 99 };
+
+const SHARE: Range = Range {
+    least: 0,
+    most: 1_000,
+};
+
+const CENTS: Range = Range {
+    least: 1,
+    most: 100_000_000_000,
+};
+
+const DAY: Range = Range {
+    least: 0,
+    most: 40_000,
+};
 
 const MAX_PRICE: u64 = 400_000;
 
-const MAX_PERCENT: u64 = 99;
-
-const MAX_SHARE: u64 = 1_000;
-
-const MAX_CENTS: u64 = 100_000_000_000;
-
-const MAX_DAY: u64 = 40_000;
-
-/// The fault for a number that is not from `least` to `most`.
-fn in_range(number: u64, least: u64, most: u64, fault: Fault) -> Result<(), Fault>
-    ensures fault_outside_the_range { λ r. ⌜ r ≡ fault-if (outside least most number) fault ⌝ }
-{
-    if number < least || number > most {
-        return Err(fault);
+impl Range {
+    /// The fault for a number outside the range.
+    fn check(self, number: u64, fault: Fault) -> Result<(), Fault>
+        ensures fault_outside_the_range { λ r. ⌜ r ≡ fault-if (outside (self .least) (self .most) number) fault ⌝ }
+    {
+        if number < self.least || number > self.most {
+            return Err(fault);
+        }
+        Ok(())
     }
-    Ok(())
 }
 
 fn day_in_range(day: Option<u64>, fault: Fault) -> Result<(), Fault>
     ensures fault_after_the_last_day { λ r. ⌜ r ≡ fault-if (day-outside day) fault ⌝ }
 {
     match day {
-        Some(day) => in_range(day, 0, MAX_DAY, fault),
+        Some(day) => DAY.check(day, fault),
         None => Ok(()),
     }
 }
@@ -86,32 +110,17 @@ impl Terms {
         ensures fault_due_for_the_input { λ r. ⌜ r ≡ cleared (due (terms-input self)) ⌝ }
     {
         price_in_range(self.reference, Fault::PriceOutOfRange { place: 5 })?;
-        in_range(
-            self.margin,
-            0,
-            MAX_PERCENT,
-            Fault::RateOutOfRange { place: 3 },
-        )?;
-        in_range(
-            self.first_day,
-            0,
-            MAX_DAY,
-            Fault::DayOutOfRange { place: 4 },
-        )
+        PERCENT.check(self.margin, Fault::RateOutOfRange { place: 3 })?;
+        DAY.check(self.first_day, Fault::DayOutOfRange { place: 4 })
     }
 }
 
 fn check_admit(participant: u64, vat: u64, share: u64) -> Result<(), Fault>
     ensures fault_due_for_the_input { λ r. ⌜ r ≡ cleared (due (input (Call.Admit participant vat share))) ⌝ }
 {
-    in_range(
-        participant,
-        1,
-        MAX_PARTICIPANT,
-        Fault::NumberOutOfRange { place: 2 },
-    )?;
-    in_range(vat, 0, MAX_PERCENT, Fault::RateOutOfRange { place: 3 })?;
-    in_range(share, 0, MAX_SHARE, Fault::RateOutOfRange { place: 4 })
+    PARTICIPANT.check(participant, Fault::NumberOutOfRange { place: 2 })?;
+    PERCENT.check(vat, Fault::RateOutOfRange { place: 3 })?;
+    SHARE.check(share, Fault::RateOutOfRange { place: 4 })
 }
 
 fn check_post(
@@ -123,7 +132,7 @@ fn check_post(
     ensures fault_due_for_the_input { λ r. ⌜ r ≡ cleared (due (input (Call.Post participant guarantee «last_day» cents))) ⌝ }
 {
     check_guarantee(participant, guarantee)?;
-    in_range(cents, 1, MAX_CENTS, Fault::AmountOutOfRange { place: 5 })?;
+    CENTS.check(cents, Fault::AmountOutOfRange { place: 5 })?;
     day_in_range(last_day, Fault::DayOutOfRange { place: 4 })
 }
 
@@ -131,18 +140,8 @@ fn check_post(
 fn check_guarantee(participant: u64, guarantee: u64) -> Result<(), Fault>
     ensures fault_due_for_the_input { λ r. ⌜ r ≡ cleared (due (input (Call.Return participant guarantee))) ⌝ }
 {
-    in_range(
-        participant,
-        1,
-        MAX_PARTICIPANT,
-        Fault::NumberOutOfRange { place: 2 },
-    )?;
-    in_range(
-        guarantee,
-        1,
-        MAX_NUMBER,
-        Fault::NumberOutOfRange { place: 3 },
-    )
+    PARTICIPANT.check(participant, Fault::NumberOutOfRange { place: 2 })?;
+    NUMBER.check(guarantee, Fault::NumberOutOfRange { place: 3 })
 }
 
 impl Call {
@@ -167,12 +166,7 @@ impl Call {
                 guarantee,
             } => check_guarantee(participant, guarantee),
             Call::Query { participant } => {
-                in_range(
-                    participant,
-                    1,
-                    MAX_PARTICIPANT,
-                    Fault::NumberOutOfRange { place: 2 },
-                )
+                PARTICIPANT.check(participant, Fault::NumberOutOfRange { place: 2 })
             }
         }
     }

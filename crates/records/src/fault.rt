@@ -4,7 +4,7 @@ ghost use mathlib.Core.Path.{_≡_};
 ghost use Rattle.records.specs.Refusals.{refusal};
 
 /// Who refuses: the line as a whole, one of its fields, or the book.
-#[derive(Clone, Copy, PartialEq, Eq, Debug)]
+#[derive(Clone, Copy)]
 pub enum Layer {
     Line,
     Field,
@@ -13,7 +13,7 @@ pub enum Layer {
 
 /// A refusal as it is answered: its number, its layer, and the place of the field at fault (the command's letter is at
 /// place 1), or 0 where no field is.
-#[derive(Clone, Copy, PartialEq, Eq, Debug)]
+#[derive(Clone, Copy)]
 pub struct Refusal {
     pub number: u16,
     pub layer: Layer,
@@ -21,7 +21,7 @@ pub struct Refusal {
 }
 
 /// Why the book refuses a call. A fault of an argument has the place of its field.
-#[derive(Clone, Copy, PartialEq, Eq, Debug)]
+#[derive(Clone, Copy)]
 pub enum Fault {
     /// A participant's or a guarantee's number that is out of range.
     NumberOutOfRange { place: u8 },

@@ -7,7 +7,7 @@ ghost use Rattle.records.specs.Rows.{valid, is-participant, is-guarantee};
 use crate::search::Keyed;
 
 /// A participant of the market, with the last numbers that it has used.
-#[derive(Clone, Copy, PartialEq, Eq, Debug)]
+#[derive(Clone, Copy)]
 pub struct Participant {
     pub number: u64,
     /// VAT in percent.
@@ -19,7 +19,7 @@ pub struct Participant {
 }
 
 /// A guarantee that a participant has posted.
-#[derive(Clone, Copy, PartialEq, Eq, Debug)]
+#[derive(Clone, Copy)]
 pub struct Guarantee {
     pub participant: u64,
     pub number: u64,
@@ -29,7 +29,7 @@ pub struct Guarantee {
 }
 
 /// Which guarantee of which participant.
-#[derive(Clone, Copy, PartialEq, Eq, Debug)]
+#[derive(Clone, Copy)]
 pub struct GuaranteeKey {
     pub participant: u64,
     pub number: u64,
