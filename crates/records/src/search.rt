@@ -12,7 +12,7 @@ pub trait Keyed<K> {
     ghost fits: { K → Self → Bool };
 
     fn has_key(&self, key: &K) -> bool
-        ensures { λ r. ⌜ r ≡ fits (now (key .entry)) (now (self .entry)) ⌝ };
+        ensures tells_its_key { λ r. ⌜ r ≡ fits (now (key .entry)) (now (self .entry)) ⌝ };
 }
 
 /// Where the first row with the key stands.

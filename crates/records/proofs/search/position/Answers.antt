@@ -7,13 +7,13 @@ use Rattle.records.proofs.search.position.Needs as need
 pub returns-then-has-key : need.returns-then-has-key
 returns-then-has-key g c = record {
   first-match =
-      sym (place-here _ (c .args .rows .now) (c .loop-i .i) (c .index-rows-i .result) (c .loop-i-test .taken) (c .index-rows-i .is) (sym (c .if-has-key .ensures tt))) ∙ c .loop-i .inv;
+      sym (place-here _ (c .args .rows .now) (c .loop-i .i) (c .index-rows-i .result) (c .loop-i-test .taken) (c .index-rows-i .is) (sym (c .if-has-key .ensures tt .tells-its-key))) ∙ c .loop-i .inv;
   within = c .loop-i-test .taken;
 }
 
 pub loop-i-again : need.loop-i-again
 loop-i-again g c =
-    sym (place-further _ (c .args .rows .now) (c .loop-i .i) (c .index-rows-i .result) (c .loop-i-test .taken) (c .index-rows-i .is) (sym (c .if-has-key .ensures tt))) ∙ c .loop-i .inv
+    sym (place-further _ (c .args .rows .now) (c .loop-i .i) (c .index-rows-i .result) (c .loop-i-test .taken) (c .index-rows-i .is) (sym (c .if-has-key .ensures tt .tells-its-key))) ∙ c .loop-i .inv
 
 pub returns : need.returns
 returns g c = record {

@@ -5,4 +5,4 @@ use Rattle.records.proofs.rows.ParticipantByNumber.has_key.Needs as need
 
 pub returns : need.returns
 unfolding is-participant
-returns c = grind (arith, tells)
+returns c = record { tells-its-key = grind (arith, tells) }
