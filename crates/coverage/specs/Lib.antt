@@ -1,0 +1,5 @@
+pub mod Allocation
+pub mod Capacity
+pub mod Meaning
+pub mod Admission
+pub mod Figures
