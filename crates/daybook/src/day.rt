@@ -9,21 +9,21 @@ use wire::LineStart;
 use wire::first_line;
 
 #[derive(Drop)]
-pub struct Day<W> {
+pub(crate) struct Day<W> {
     session: Session<W>,
     /// The beginning of a line whose end has not come yet.
     start: LineStart,
 }
 
 impl<W: Write + Drop> Day<W> {
-    pub fn new(heap: Global, out: W) -> Result<Day<W>, AllocError> {
+    pub(crate) fn new(heap: Global, out: W) -> Result<Day<W>, AllocError> {
         let start = LineStart::new(heap)?;
         let session = Session::new(heap, out)?;
         Ok(Day { session, start })
     }
 
     /// Answers every line that ends in the text, and keeps the beginning of one that does not.
-    pub fn feed(&mut self, text: &[u8]) -> Result<(), AnyError> {
+    pub(crate) fn feed(&mut self, text: &[u8]) -> Result<(), AnyError> {
         let mut rest = text;
         while let Some((line, after)) = first_line(rest) {
             if self.start.is_empty() {
@@ -40,14 +40,14 @@ impl<W: Write + Drop> Day<W> {
     }
 
     /// Answers what stands after the last line feed, if anything does.
-    pub fn finish(&mut self) -> Result<(), AnyError> {
+    pub(crate) fn finish(&mut self) -> Result<(), AnyError> {
         if !self.start.is_empty() {
             self.session.answer(self.start.bytes())?;
         }
         self.flush()
     }
 
-    pub fn flush(&mut self) -> Result<(), AnyError> {
+    pub(crate) fn flush(&mut self) -> Result<(), AnyError> {
         self.session.flush()
     }
 }

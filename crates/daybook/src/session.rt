@@ -10,7 +10,7 @@ use wire::ANSWER_BYTES;
 const SCRATCH_NUMBERS: usize = 512;
 
 #[derive(Drop)]
-pub struct Session<W> {
+pub(crate) struct Session<W> {
     heap: Global,
     desk: Desk,
     scratch: Vec<u32>,
@@ -20,7 +20,7 @@ pub struct Session<W> {
 }
 
 impl<W: Write + Drop> Session<W> {
-    pub fn new(heap: Global, out: W) -> Result<Session<W>, AllocError> {
+    pub(crate) fn new(heap: Global, out: W) -> Result<Session<W>, AllocError> {
         let scratch = vec![in heap; 0u32; SCRATCH_NUMBERS]?;
         Ok(Session {
             heap,
@@ -32,7 +32,7 @@ impl<W: Write + Drop> Session<W> {
     }
 
     /// Answers one line. Lines are numbered from 1 in 32 bits; after the largest number they go on from 0.
-    pub fn answer(&mut self, line: &[u8]) -> Result<(), AnyError> {
+    pub(crate) fn answer(&mut self, line: &[u8]) -> Result<(), AnyError> {
         self.number = self.number.wrapping_add(1);
         let mut buffer = [0u8; ANSWER_BYTES];
         let length = match self.desk.line(
@@ -52,7 +52,7 @@ impl<W: Write + Drop> Session<W> {
         Ok(())
     }
 
-    pub fn flush(&mut self) -> Result<(), AnyError> {
+    pub(crate) fn flush(&mut self) -> Result<(), AnyError> {
         self.out.flush()?;
         Ok(())
     }
