@@ -16,8 +16,8 @@ use Rattle.records.specs.Refusals.{Cause, _when_, due}
 use Rattle.records.specs.State.{State}
 use Rattle.records.specs.Calls.{input, against, causes, Performs, Outcome}
 use Rattle.desk.specs.declared.command.Command.the-variants.{Perform}
-use Rattle.desk.specs.declared.command.Market.{Market}
-use Rattle.desk.specs.declared.command.Weeks.{Weeks}
+use Rattle.market.specs.declared.any.Market.{Market}
+use Rattle.market.specs.declared.weeks.Weeks.{Weeks}
 use Rattle.desk.specs.declared.fault.LineFault.{LineFault}
 use Rattle.desk.specs.declared.fault.LineFault.the-variants.{Book}
 use Rattle.desk.specs.Lines.{Commanded, Commanded-by, against-book, of-book}
@@ -27,7 +27,7 @@ due-by : (b : Bool) (f : Fault) (o : Option Fault) (p : Option LineFault) → p 
 due-by true f o p e = refl
 due-by false f o p e = e
 
-due-of-book : (xs : List (Cause Fault)) → due (of-book xs) ≡ mapped Book (due xs)
+pub due-of-book : (xs : List (Cause Fault)) → due (of-book xs) ≡ mapped Book (due xs)
 due-of-book [] = refl
 due-of-book (x ∷ xs) = due-by (x .present) (x .fault) (due xs) (due (of-book xs)) (due-of-book xs)
 

@@ -1,3 +1,4 @@
 pub mod Letters
 pub mod Commanding
+pub mod Opening
 pub mod Handling

@@ -12,6 +12,8 @@ use Rattle.std.specs.declared.option.Option.{Option}
 use Rattle.std.specs.declared.option.Option.the-variants.{Some, None}
 use Rattle.std.specs.declared.result.Result.{Result}
 use Rattle.std.specs.declared.result.Result.the-variants.{Ok, Err}
+use Rattle.market.specs.declared.any.Market.{Market}
+use Rattle.market.specs.declared.any.Market.the-variants as market
 use Rattle.records.specs.Refusals.{Cause, _when_, due}
 use Rattle.records.specs.declared.call.Call.the-variants.{Admit, Post, Return, Query}
 use Rattle.wire.specs.Fields.{comma, fields, remaining, place, next-place}
@@ -20,17 +22,29 @@ use Rattle.wire.specs.declared.fields.Field.{Field}
 use Rattle.wire.specs.declared.fields.Reader.{Reader}
 use Rattle.desk.specs.declared.command.Command.{Command}
 use Rattle.desk.specs.declared.command.Command.the-variants.{Open, Perform}
-use Rattle.desk.specs.declared.command.Market.{Market}
-use Rattle.desk.specs.declared.command.Market.the-variants.{Xbid, Mpeg, Pce}
+use Rattle.desk.specs.declared.command.MarketName.{MarketName}
+use Rattle.desk.specs.declared.command.MarketName.the-variants.{Xbid, Mpeg, Pce}
 use Rattle.desk.specs.declared.fault.LineFault.{LineFault}
 use Rattle.desk.specs.declared.fault.LineFault.the-variants.{UnknownLetter, WrongFieldCount, NotANumber}
 
 -- The market that a field names: X is MI-XBID, M is MPEG, P is PCE.
-abbrev pub market-of : List ℕ → Option Market
+abbrev pub market-of : List ℕ → Option MarketName
 market-of [] = None
 market-of (letter ∷ []) =
     cond (eqb letter 88) (Some Xbid) (cond (eqb letter 77) (Some Mpeg) (cond (eqb letter 80) (Some Pce) None))
 market-of (letter ∷ next ∷ rest) = None
+
+-- the rule of the market that is named
+abbrev pub Follows : MarketName → Market → Type 0
+Follows Xbid (market.Xbid rule) = Unit {0}
+Follows Xbid (market.Mpeg rule) = ⊥
+Follows Xbid (market.Pce rule) = ⊥
+Follows Mpeg (market.Xbid rule) = ⊥
+Follows Mpeg (market.Mpeg rule) = Unit {0}
+Follows Mpeg (market.Pce rule) = ⊥
+Follows Pce (market.Xbid rule) = ⊥
+Follows Pce (market.Mpeg rule) = ⊥
+Follows Pce (market.Pce rule) = Unit {0}
 
 -- The fields of a command are counted from 0; the first stands at place 2, after the letter. One that is missing counts as empty.
 abbrev pub field : List (List ℕ) → ℕ → List ℕ

@@ -12,8 +12,12 @@ use Rattle.std.specs.declared.option.Option.{Option}
 use Rattle.std.specs.declared.option.Option.the-variants.{Some, None}
 use Rattle.std.specs.declared.result.Result.{Result}
 use Rattle.std.specs.declared.result.Result.the-variants.{Ok, Err}
+use Rattle.market.specs.declared.any.Market.{Market}
+use Rattle.market.specs.declared.weeks.Weeks.{Weeks}
+use Rattle.market.specs.Rules.{any}
 use Rattle.records.specs.declared.answer.Answer.{Answer}
 use Rattle.records.specs.declared.answer.Status.the-variants.{New}
+use Rattle.records.specs.declared.call.Terms.{Terms}
 use Rattle.records.specs.declared.fault.Fault.{Fault}
 use Rattle.records.specs.declared.fault.Refusal.{Refusal}
 use Rattle.records.specs.Refusals.{Cause, _when_, due}
@@ -24,14 +28,13 @@ use Rattle.book.specs.View.{state}
 use Rattle.wire.specs.Lines.{answer-text, refusal-text, fronted, line-room}
 use Rattle.desk.specs.declared.command.Command.{Command}
 use Rattle.desk.specs.declared.command.Command.the-variants.{Open, Perform}
-use Rattle.desk.specs.declared.command.Market.{Market}
-use Rattle.desk.specs.declared.command.Weeks.{Weeks}
+use Rattle.desk.specs.declared.command.MarketName.{MarketName}
 use Rattle.desk.specs.declared.fault.LineFault.{LineFault}
 use Rattle.desk.specs.declared.fault.LineFault.the-variants.{BufferTooShort, LineTooLong, NotOpen, AlreadyOpen, Book, OutOfMemory}
 use Rattle.desk.specs.declared.fault.Refused.{Refused}
 use Rattle.desk.specs.declared.session.Desk.{Desk}
 use Rattle.desk.specs.Faults.{refusal}
-use Rattle.desk.specs.Commands.{line-form, command-of}
+use Rattle.desk.specs.Commands.{Follows, line-form, command-of}
 
 -- the book of a desk, if one is open
 abbrev pub Books : Type 0
@@ -67,11 +70,19 @@ causes room line book = (BufferTooShort when ltb room line-room) ∷ line-causes
 abbrev pub zeros : Answer
 zeros = record { status = New; exposure = pos 0; «credit_position» = pos 0; capacity = pos 0 }
 
+-- A book that was just opened: it follows the rule of the market named, with the reference price of the terms published, settles
+-- by weeks, and is empty on its terms.
+pub record Fresh (name : MarketName) (terms : Terms) (book : Books) : Type 0 where
+  pub rule : Market
+  pub follows : Follows name rule
+  pub reference : any .reference rule .cents ≡ terms .reference
+  pub empty : book ≡ Some (opened rule (record {}) terms)
+
 -- What a command that nothing is due against does to the book, and answers. Only opening can find no memory.
 abbrev pub Done : Option Command → Books → Result Answer LineFault → Books → Type 0
 Done None before reply after = ⊥
 Done (Some (Open market terms)) before reply after =
-    ((reply ≡ Ok zeros) × (after ≡ Some (opened market (record {}) terms))) ⊎ ((reply ≡ Err OutOfMemory) × (after ≡ before))
+    ((reply ≡ Ok zeros) × Fresh market terms after) ⊎ ((reply ≡ Err OutOfMemory) × (after ≡ before))
 Done (Some (Perform call)) None reply after = ⊥
 Done (Some (Perform call)) (Some s) reply after =
     (reply ≡ Ok (position (carried call s) (participant-of call))) × (after ≡ Some (carried call s))

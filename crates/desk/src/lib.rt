@@ -6,8 +6,7 @@ mod reading;
 mod session;
 
 pub use command::Command;
-pub use command::Market;
-pub use command::Weeks;
+pub use command::MarketName;
 pub use fault::LineFault;
 pub use fault::LineFaultFromFault;
 pub use fault::LineFaultFromOpen;

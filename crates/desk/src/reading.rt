@@ -8,7 +8,7 @@ ghost use Rattle.desk.specs.Commands.{NextField, Ended, One, Two, Three, Four}
 ghost use Rattle.desk.specs.Commands.{held-at, market-of, unknown-market, Led, Reads, Takes, opens, admits, posts, returns, queries};
 ghost use Rattle.desk.specs.declared.fault.LineFault.the-variants.{UnknownLetter, NotANumber};
 use crate::command::Command;
-use crate::command::Market;
+use crate::command::MarketName;
 use crate::fault::LineFault;
 use records::Call;
 use records::Terms;
@@ -104,13 +104,13 @@ fn last_day(field: Field) -> Result<Option<u64>, LineFault>
     }
 }
 
-fn market(field: Field) -> Result<Market, LineFault>
+fn market(field: Field) -> Result<MarketName, LineFault>
     ensures market_or_fault_at_its_place { λ r. ⌜ r ≡ held-at (market-of (now (field .entry .bytes))) (UnknownLetter (field .entry .place)) ⌝ }
 {
     match field.bytes {
-        [b'X'] => Ok(Market::Xbid),
-        [b'M'] => Ok(Market::Mpeg),
-        [b'P'] => Ok(Market::Pce),
+        [b'X'] => Ok(MarketName::Xbid),
+        [b'M'] => Ok(MarketName::Mpeg),
+        [b'P'] => Ok(MarketName::Pce),
         _ => Err(LineFault::UnknownLetter { place: field.place }),
     }
 }

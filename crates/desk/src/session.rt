@@ -11,14 +11,17 @@ ghost use Rattle.desk.specs.Faults.{rank};
 ghost use Rattle.std.specs.Results.{isErr};
 ghost use Rattle.desk.specs.Lines.{book-of, Commanded, Handled, Answered, line-causes, causes, text, length-told};
 use crate::command::Command;
-use crate::command::Market;
-use crate::command::Weeks;
+use crate::command::MarketName;
 use crate::fault::LineFault;
 use crate::fault::LineFaultFromFault;
 use crate::fault::LineFaultFromOpen;
 use crate::fault::Refused;
 use crate::reading::read;
 use book::Book;
+use market::AnyMarketRule;
+use market::Market;
+use market::Weeks;
+use market::WeeksCalendar;
 use records::Answer;
 use records::Call;
 use records::Status;
@@ -47,7 +50,7 @@ impl Desk {
     }
 
     /// Opens the book.
-    fn open(&mut self, heap: Global, market: Market, terms: Terms) -> Result<Answer, LineFault>
+    fn open(&mut self, heap: Global, market: MarketName, terms: Terms) -> Result<Answer, LineFault>
         ensures done_or_refused { λ r. ⌜ Commanded (Command.Open market terms) (book-of (now (self .entry))) r (book-of (now (self .exit))) ⌝ }
         ensures refused_desk_is_unchanged { λ r. ⌜ (isErr r ≡ true → now (self .exit) ≡ now (self .entry)) ⌝ }
     {
@@ -55,7 +58,7 @@ impl Desk {
         if self.book.is_some() {
             return Err(LineFault::AlreadyOpen);
         }
-        self.book = Some(Book::open(heap, market, Weeks, terms)?);
+        self.book = Some(Book::open(heap, market.rule(), Weeks, terms)?);
         Ok(Answer {
             status: Status::New,
             exposure: 0,

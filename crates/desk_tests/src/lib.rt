@@ -5,18 +5,23 @@ mod tests {
     use book::Book;
     use book::OpenFault;
     use desk::Desk;
+    use desk::MarketName;
+    use market::AnyMarketRule;
+    use market::Market;
+    use market::Weeks;
+    use market::WeeksCalendar;
     use records::Fault;
     use records::Terms;
     use std::test::*;
 
-    // A book of margin 3 at day 5; the rule and the calendar do not matter.
-    fn opened(rt: &LibcRuntime) -> Result<Book<(), ()>, Fail> {
+    // A book of MI-XBID with a margin of 3 percent, opened on day 5.
+    fn opened(rt: &LibcRuntime) -> Result<Book<Market, Weeks>, Fail> {
         let terms = Terms {
             margin: 3,
             first_day: 5,
             reference: 0,
         };
-        match Book::open(rt.alloc(), (), (), terms) {
+        match Book::open(rt.alloc(), MarketName::Xbid.rule(), Weeks, terms) {
             Ok(book) => Ok(book),
             Err(OpenFault::Refused(_)) => Err(Fail::new("refused")),
             Err(OpenFault::OutOfMemory) => Err(Fail::new("no memory")),

@@ -6,6 +6,7 @@ use Prim.Native.Nat.{ℕ, zero, suc, _+_, _-_, _*_, _≤_, _<_}
 use native.Mathlib.Nat.{mul-le-mul}
 use native.Mathlib.Omega.{arith}
 use lib.Dec.{leb}
+use lib.IntN.{natAbs}
 use lib.ListN.{length, getD, set}
 use Rattle.std.specs.declared.option.Option.{Option}
 use Rattle.std.specs.declared.option.Option.the-variants.{Some, None}
@@ -18,7 +19,7 @@ use Rattle.records.specs.declared.rows.Guarantee.{Guarantee}
 use Rattle.records.specs.Refusals.{due, cleared, outside}
 use Rattle.records.specs.Tables.{every, change, remove}
 use Rattle.records.specs.Rows.{worth, shares-in-range, amounts-in-range, share-in-range, amount-in-range}
-use Rattle.records.specs.Calls.{input, terms-input}
+use Rattle.records.specs.Calls.{input, terms-input, price-outside}
 use Rattle.records.proofs.Refusing.{none-due, all-absent}
 
 up-to : (least most n : ℕ) → outside least most n ≡ false → n ≤ most
@@ -28,6 +29,13 @@ up-to least most n e = grind (arith, tells)
 -- what a check that passed says of the arguments
 pub checked-margin : (terms : Terms) → Ok tt ≡ cleared (due (terms-input terms)) → terms .margin ≤ 99
 checked-margin terms e = let a = all-absent (terms-input terms) (none-due _ e) in up-to 0 99 (terms .margin) (a .1 .0)
+
+pub checked-reference : (terms : Terms) → Ok tt ≡ cleared (due (terms-input terms)) → natAbs (terms .reference) ≤ 400000
+unfolding price-outside
+checked-reference terms e =
+    let a = all-absent (terms-input terms) (none-due _ e) in
+    let t = a .0 in
+    grind (arith, tells)
 
 pub checked-share : (participant vat share : ℕ) → Ok tt ≡ cleared (due (input (Admit participant vat share))) → share ≤ 1000
 checked-share participant vat share e =

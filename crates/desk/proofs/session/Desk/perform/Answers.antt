@@ -7,8 +7,8 @@ use Rattle.std.specs.declared.result.Result.the-variants.{Ok, Err}
 use Rattle.std.proofs.shelf.Results.{err-from-errBy}
 use Rattle.book.specs.View.{state}
 use Rattle.book.specs.declared.tables.Book as Book
-use Rattle.desk.specs.declared.command.Market.{Market}
-use Rattle.desk.specs.declared.command.Weeks.{Weeks}
+use Rattle.market.specs.declared.any.Market.{Market}
+use Rattle.market.specs.declared.weeks.Weeks.{Weeks}
 use Rattle.desk.specs.declared.fault.LineFault.the-variants as line-fault
 use Rattle.desk.specs.declared.command.Command.the-variants.{Perform}
 use Rattle.desk.specs.declared.session.Desk.{Desk}
