@@ -6,4 +6,3 @@ pub mod Rule
 pub mod Limits
 pub mod Rules
 pub mod Calendars
-pub mod Worked

@@ -1,5 +1,5 @@
 -- The units of energy, prices and money, and their ranges.
-use Prim.Native.Nat.{ℕ, _+_, _-_, _*_, _≤_}
+use Prim.Native.Nat.{ℕ, _+_, _≤_}
 use lib.IntN.{ℤ, pos, natAbs, _*ℤ_}
 
 -- a price is whole cents a MWh, at most 400,000 either way
@@ -12,7 +12,3 @@ Vat-range percent = percent ≤ 99
 -- A value is kWh times price, added up over fills. With VAT it is in grains, of which a euro has ten million.
 abbrev pub grains : ℕ → ℤ → ℤ
 grains vat value = value *ℤ pos (100 + vat)
-
--- what a guarantee of so many cents is worth in grains, at a share in thousandths and a maintenance margin in percent
-abbrev pub guarantee-worth : ℕ → ℕ → ℕ → ℕ
-guarantee-worth cents share margin = cents * share * (100 - margin)

@@ -12,7 +12,6 @@ mod ranged;
 mod rule;
 mod units;
 mod weeks;
-mod worked;
 mod xbid;
 
 pub use any::AnyMarketRule;
@@ -38,7 +37,6 @@ pub use units::Price;
 pub use units::Vat;
 pub use weeks::Weeks;
 pub use weeks::WeeksCalendar;
-pub use worked::worked_figures;
 pub use xbid::Xbid;
 pub use xbid::XbidRule;
 
