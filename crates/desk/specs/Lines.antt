@@ -78,7 +78,8 @@ pub record Fresh (name : MarketName) (terms : Terms) (book : Books) : Type 0 whe
   pub reference : any .reference rule .cents ≡ terms .reference
   pub empty : book ≡ Some (opened rule (record {}) terms)
 
--- What a command that nothing is due against does to the book, and answers. Only opening can find no memory.
+-- What a command that nothing is due against does to the book, and answers. Only opening can find no memory. Where nothing is due
+-- there is a command, and a call meets an open book: the two other cases do not occur.
 abbrev pub Done : Option Command → Books → Result Answer LineFault → Books → Type 0
 Done None before reply after = ⊥
 Done (Some (Open market terms)) before reply after =

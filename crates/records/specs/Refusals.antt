@@ -10,6 +10,7 @@ use Rattle.std.specs.declared.option.Option.the-variants.{Some, None}
 use Rattle.std.specs.declared.result.Result.{Result}
 use Rattle.std.specs.declared.result.Result.the-variants.{Ok, Err}
 use Rattle.std.specs.shelf.Lists.{All}
+use Rattle.market.specs.declared.listed.ListFault.{ListFault}
 use Rattle.records.specs.declared.fault.Fault.{Fault}
 use Rattle.records.specs.declared.fault.Fault.the-variants.{NumberOutOfRange, PriceOutOfRange, RateOutOfRange, AmountOutOfRange, DayOutOfRange, UnknownParticipant, AlreadyAdmitted, UnknownGuarantee, NumberUsed, DayPast, TableFull}
 use Rattle.records.specs.declared.fault.Layer.the-variants.{Book}
@@ -32,6 +33,10 @@ refusal UnknownGuarantee = of-book 213 0
 refusal NumberUsed = of-book 214 0
 refusal DayPast = of-book 215 0
 refusal TableFull = of-book 216 0
+
+-- a calendar list that is refused, for whatever reason, is a day out of range at no field
+abbrev pub of-list : ListFault → Fault
+of-list fault = DayOutOfRange 0
 
 -- A reason to refuse a call: the fault, and whether its condition holds.
 pub record Cause (F : Type 0) : Type 0 where

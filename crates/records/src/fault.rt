@@ -1,7 +1,8 @@
 //! Why the book refuses a call, and how a refusal is numbered.
 
 ghost use mathlib.Core.Path.{_≡_};
-ghost use Rattle.records.specs.Refusals.{refusal};
+ghost use Rattle.records.specs.Refusals.{refusal, of-list};
+use market::ListFault;
 
 /// Who refuses: the line as a whole, one of its fields, or the book.
 #[derive(Clone, Copy)]
@@ -31,7 +32,7 @@ pub enum Fault {
     RateOutOfRange { place: u8 },
     /// An amount that is out of range.
     AmountOutOfRange { place: u8 },
-    /// A day after the last one.
+    /// A day after the last one, or a calendar list that is too long, does not rise or goes beyond the last day.
     DayOutOfRange { place: u8 },
     UnknownParticipant,
     AlreadyAdmitted,
@@ -43,7 +44,17 @@ pub enum Fault {
     TableFull,
 }
 
+/// A calendar list that is refused: no field of a line is at fault.
+pub impl From<ListFault> for Fault as FaultFromList {
+    ghost converts = { λ list r. r ≡ of-list list };
+
+    fn from(_list: ListFault) -> Fault {
+        Fault::DayOutOfRange { place: 0 }
+    }
+}
+
 impl Fault {
+    /// The number, the layer and the place with which it is answered.
     pub fn refusal(self) -> Refusal
         ensures as_the_table_has_it { λ r. ⌜ r ≡ refusal self ⌝ }
     {

@@ -11,6 +11,7 @@ pub use answer::Status;
 pub use call::Call;
 pub use call::Terms;
 pub use fault::Fault;
+pub use fault::FaultFromList;
 pub use fault::Layer;
 pub use fault::Refusal;
 pub use rows::Guarantee;
