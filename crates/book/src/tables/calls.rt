@@ -8,7 +8,7 @@ ghost use Rattle.std.specs.Results.{isErr};
 ghost use Rattle.std.specs.Vec.{made};
 ghost use Rattle.records.specs.Calls.{Performs};
 ghost use Rattle.records.specs.Capacity.{guaranteed-on, Least-over};
-ghost use Rattle.book.specs.View.{state};
+ghost use Rattle.book.specs.View.{state, SameMemory};
 use crate::tables::Book;
 use records::Answer;
 use records::Call;
@@ -21,6 +21,7 @@ impl<R, C> Book<R, C> {
     pub fn admit(&mut self, participant: u64, vat: u64, share: u64) -> Result<Answer, Fault>
         ensures performed_or_refused { λ r. ⌜ Performs (Call.Admit participant vat share) (state (now (self .entry))) r (state (now (self .exit))) ⌝ }
         ensures refused_book_is_unchanged { λ r. ⌜ (isErr r ≡ true → now (self .exit) ≡ now (self .entry)) ⌝ }
+        ensures memory_is_that_of_open { λ _. ⌜ SameMemory (now (self .entry)) (now (self .exit)) ⌝ }
     {
         Call::Admit {
             participant,
@@ -48,6 +49,7 @@ impl<R, C> Book<R, C> {
     ) -> Result<Answer, Fault>
         ensures performed_or_refused { λ r. ⌜ Performs (Call.Post participant guarantee «last_day» cents) (state (now (self .entry))) r (state (now (self .exit))) ⌝ }
         ensures refused_book_is_unchanged { λ r. ⌜ (isErr r ≡ true → now (self .exit) ≡ now (self .entry)) ⌝ }
+        ensures memory_is_that_of_open { λ _. ⌜ SameMemory (now (self .entry)) (now (self .exit)) ⌝ }
     {
         Call::Post {
             participant,
@@ -71,6 +73,7 @@ impl<R, C> Book<R, C> {
     pub fn return_guarantee(&mut self, participant: u64, guarantee: u64) -> Result<Answer, Fault>
         ensures performed_or_refused { λ r. ⌜ Performs (Call.Return participant guarantee) (state (now (self .entry))) r (state (now (self .exit))) ⌝ }
         ensures refused_book_is_unchanged { λ r. ⌜ (isErr r ≡ true → now (self .exit) ≡ now (self .entry)) ⌝ }
+        ensures memory_is_that_of_open { λ _. ⌜ SameMemory (now (self .entry)) (now (self .exit)) ⌝ }
     {
         Call::Return {
             participant,
@@ -95,6 +98,7 @@ impl<R, C> Book<R, C> {
     pub fn call(&mut self, call: Call) -> Result<Answer, Fault>
         ensures performed_or_refused { λ r. ⌜ Performs call (state (now (self .entry))) r (state (now (self .exit))) ⌝ }
         ensures refused_book_is_unchanged { λ r. ⌜ (isErr r ≡ true → now (self .exit) ≡ now (self .entry)) ⌝ }
+        ensures memory_is_that_of_open { λ _. ⌜ SameMemory (now (self .entry)) (now (self .exit)) ⌝ }
     {
         match call {
             Call::Admit {

@@ -55,4 +55,5 @@ returns g c =
           (same-tables s changed (c .push-reserved .ensures .items))
           (c .position .ensures .as-the-definition);
       refused-book-is-unchanged = search needs;
+      memory-is-that-of-open = search needs;
     }

@@ -51,4 +51,5 @@ returns g c =
           (same-tables s refl (c .remove .ensures .items ∙ sym taken))
           (c .position .ensures .as-the-definition);
       refused-book-is-unchanged = search needs;
+      memory-is-that-of-open = search needs;
     }
