@@ -1,10 +1,2 @@
+pub mod Positions
 pub mod Permitting
-pub mod Judging
-pub mod Opened
-pub mod Asking
-pub mod Entering
-pub mod Supposing
-pub mod Collecting
-pub mod Exits
-pub mod Placing
-pub mod Filling

@@ -1,5 +1,5 @@
 -- What open promises. Assumes nothing.
-use Rattle.std.specs.Prelude.{◌≡◌, ℕ, [], Some, None, Ok, Err, Result}
+use Rattle.std.specs.Prelude.{◌≡◌, Some, None, Ok, Err, Result}
 use Rattle.market.specs.declared.units.Price.{Price}
 use Rattle.market.specs.Rule.{Meaning}
 use Rattle.records.specs.declared.call.Terms.{Terms}
@@ -7,11 +7,16 @@ use Rattle.records.specs.declared.fault.Fault.{Fault}
 use Rattle.records.specs.Refusals.{rank, due, Smallest}
 use Rattle.records.specs.State.{opened}
 use Rattle.records.specs.Calls.{terms_input}
-use Rattle.records.specs.declared.fault.OpenFault.{OpenFault}
-use Rattle.records.specs.declared.fault.OpenFault.TheVariants.{Refused, OutOfMemory}
+use Rattle.book.specs.declared.fault.OpenFault.{OpenFault}
+use Rattle.book.specs.declared.fault.OpenFault.TheVariants.{Refused, OutOfMemory}
 use Rattle.book.specs.declared.tables.Book.{Book}
-use Rattle.journal.specs.Journal.{Saw}
 use Rattle.book.specs.View.{state}
+
+abbrev pub refused : Fault → OpenFault
+refused fault = Refused fault
+
+abbrev pub out_of_memory : OpenFault
+out_of_memory = OutOfMemory
 
 -- The rule has the reference price of the terms published.
 pub record Published {R : Type 0} (meaning : Meaning R) (rule : R) (terms : Terms) (after : R) : Type 0 where
@@ -28,8 +33,3 @@ module _ {R C : Type 0} (meaning : Meaning R) where
   Opens rule calendar terms (Err (Refused fault)) =
       (due (terms_input terms) ≡ Some fault) × Smallest rank (terms_input terms) (Some fault)
   Opens rule calendar terms (Err OutOfMemory) = due (terms_input terms) ≡ None
-
-  -- a book that was opened has seen nothing yet
-  abbrev pub Begins : (C → ℕ → ℕ) → C → Terms → Result (Book R C) OpenFault → Type 0
-  Begins periods calendar terms (Ok book) = Saw meaning periods book.rule calendar terms [] (state book)
-  Begins periods calendar terms (Err fault) = Unit {0}

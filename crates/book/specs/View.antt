@@ -11,13 +11,9 @@ state book = record {
   today = book.today;
   participants = vec_items book.participants;
   guarantees = vec_items book.guarantees;
-  proposals = vec_items book.proposals;
-  cells = vec_items book.cells;
 }
 
 -- a call takes no memory and gives none back: the tables have room for as many rows as before
 pub record SameMemory {R C : Type 0} (before after : Book R C) : Type 0 where
   pub participants : vec_capacity after.participants ≡ vec_capacity before.participants
   pub guarantees : vec_capacity after.guarantees ≡ vec_capacity before.guarantees
-  pub proposals : vec_capacity after.proposals ≡ vec_capacity before.proposals
-  pub cells : vec_capacity after.cells ≡ vec_capacity before.cells

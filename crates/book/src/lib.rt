@@ -1,8 +1,7 @@
 //! The guarantee book of one market: its tables and its calls.
 
-mod few;
-mod reservation;
+mod fault;
 mod tables;
 
-pub use reservation::Reservation;
+pub use fault::OpenFault;
 pub use tables::Book;

@@ -1,5 +1,5 @@
 -- Sums over a list, of which a test may leave terms out.
-use Rattle.std.proofs.Common.{◌≡◌, ℕ, ◌+◌, ◌*◌, ◌<◌, ◌≤◌, Bool, true, false, cond, not, ◌&&◌, List, [], ◌∷◌, ◌++◌, map, length, get_or, drop, filter, sym, refl, ap, ◌∙◌, arith}
+use Rattle.std.proofs.Common.{◌≡◌, ℕ, ◌+◌, ◌*◌, ◌<◌, ◌≤◌, Bool, true, false, ◌&&◌, List, [], ◌∷◌, length, get_or, drop, sym, refl, ap, ◌∙◌, arith}
 use Rattle.std.specs.List.{AllByRecursion as All}
 use Rattle.std.proofs.lemmas.List.{drop_more, drop_all}
 use Rattle.coverage.specs.Allocation.{total, amount_if}
@@ -87,34 +87,3 @@ module _ {X : Type 0} where
 pub total_swap : {X Y : Type 0} (f : X → Y → ℕ) (xs : List X) (ys : List Y) → total (λ x. total (f x) ys) xs ≡ total (λ y. total (λ x. f x y) xs) ys
 total_swap f [] ys = sym (total_none (λ y. 0) ys (λ y. refl))
 total_swap f (x ∷ xs) ys = ap (λ n. total (f x) ys + n) (total_swap f xs ys) ∙ sym (total_add (f x) (λ y. total (λ x. f x y) xs) ys)
-
--- Sums over a part of a list, and over a list of rows made from it.
-
-module _ {X Y : Type 0} where
-  pub total_map : (f : Y → ℕ) (g : X → Y) (xs : List X) → total f (map g xs) ≡ total (λ x. f (g x)) xs
-  total_map f g [] = refl
-  total_map f g (x ∷ xs) = ap (λ n. f (g x) + n) (total_map f g xs)
-
-module _ {X : Type 0} where
-  pub total_kept : (f : X → ℕ) (test : X → Bool) (xs : List X) → total f (filter test xs) ≡ total (λ x. amount_if (test x) (f x)) xs
-  total_kept f test [] = refl
-  total_kept f test (x ∷ xs) = go (test x) (total_kept f test xs)
-    where
-      go : (b : Bool) → total f (filter test xs) ≡ total (λ x. amount_if (test x) (f x)) xs →
-          total f (cond b (x ∷ filter test xs) (filter test xs)) ≡ amount_if b (f x) + total (λ x. amount_if (test x) (f x)) xs
-      go true ih = omega (arith, ih)
-      go false ih = omega (arith, ih)
-
-  pub total_append : (f : X → ℕ) (xs ys : List X) → total f (xs ++ ys) ≡ total f xs + total f ys
-  total_append f [] ys = omega arith
-  total_append f (x ∷ xs) ys = omega (arith, total_append f xs ys)
-
-  -- those that pass a test and those that do not
-  pub total_split : (f : X → ℕ) (test : X → Bool) (xs : List X) → total f xs ≡ total f (filter test xs) + total f (filter (λ x. not (test x)) xs)
-  total_split f test [] = refl
-  total_split f test (x ∷ xs) = go (test x) (total_split f test xs)
-    where
-      go : (b : Bool) → total f xs ≡ total f (filter test xs) + total f (filter (λ x. not (test x)) xs) →
-          f x + total f xs ≡ total f (cond b (x ∷ filter test xs) (filter test xs)) + total f (cond (not b) (x ∷ filter (λ x. not (test x)) xs) (filter (λ x. not (test x)) xs))
-      go true ih = omega (arith, ih)
-      go false ih = omega (arith, ih)

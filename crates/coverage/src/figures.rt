@@ -76,7 +76,7 @@ fn exposure_of(position: &Position) -> i64
 }
 
 /// What the guarantees valid on a day leave after the debts of that day or later.
-fn capacity_at(position: &Position, day: u64) -> i64
+fn capacity_at(position: &Position, day: u32) -> i64
     requires admissible { Admissible (position_of position.now) }
     ensures valid_guarantees_less_debts_above_credit { result ≡ capacity_at (position_of position.now) day }
 {

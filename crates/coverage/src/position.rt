@@ -19,8 +19,8 @@ pub struct Position<'a> {
     pub debts: &'a [Debt],
     pub credits: &'a [Credit],
     pub guarantees: &'a [Guarantee],
-    pub first_day: u64,
-    pub today: u64,
+    pub first_day: u32,
+    pub today: u32,
 }
 
 impl Position<'_> {
@@ -47,7 +47,7 @@ impl Position<'_> {
     }
 }
 
-fn are_debts_admissible(debts: &[Debt], first_day: u64, today: u64) -> bool
+fn are_debts_admissible(debts: &[Debt], first_day: u32, today: u32) -> bool
     ensures each_of_a_day_and_amount_in_range { Decides result (All (λ x. (first_day ≤ x.day) × (x.day ≤ today) × (x.grains ≤ 32000000000000000)) debts.now) }
 {
     for debt in debts {

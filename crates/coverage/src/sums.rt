@@ -8,7 +8,7 @@ use crate::position::Position;
 use crate::rows::{Credit, Debt, Guarantee};
 
 /// What the guarantees that are valid on a day are worth.
-pub(crate) fn guaranteed_on(guarantees: &[Guarantee], day: u64) -> u64
+pub(crate) fn guaranteed_on(guarantees: &[Guarantee], day: u32) -> u64
     requires fits { total (λ g. g.worth) guarantees.now < 2 ^ 63 }
     ensures sum_of_the_valid { result ≡ guaranteed guarantees.now day }
     ensures still_fits { result < 2 ^ 63 }
@@ -21,7 +21,7 @@ pub(crate) fn guaranteed_on(guarantees: &[Guarantee], day: u64) -> u64
 }
 
 /// What the debts of a period that are of a day or later come to.
-pub(crate) fn owed_from(debts: &[Debt], day: u64, period: u64) -> u64
+pub(crate) fn owed_from(debts: &[Debt], day: u32, period: u32) -> u64
     requires fits { total (λ x. x.grains) debts.now < 2 ^ 63 }
     ensures sum_of_the_due { result ≡ owed debts.now day period }
 {
@@ -33,7 +33,7 @@ pub(crate) fn owed_from(debts: &[Debt], day: u64, period: u64) -> u64
 }
 
 /// What the credits of a period come to.
-pub(crate) fn credited_in(credits: &[Credit], period: u64) -> u64
+pub(crate) fn credited_in(credits: &[Credit], period: u32) -> u64
     requires fits { total (λ c. c.grains) credits.now < 2 ^ 63 }
     ensures sum_of_the_period { result ≡ credited credits.now period }
 {
@@ -58,7 +58,7 @@ pub(crate) fn credited_in_all(credits: &[Credit]) -> u64
 }
 
 /// Whether one of the debts is of a period.
-pub(crate) fn owes_in(debts: &[Debt], period: u64) -> bool
+pub(crate) fn owes_in(debts: &[Debt], period: u32) -> bool
     ensures some_debt_of_the_period { result ≡ owes_in debts.now period }
 {
     for debt in debts {
@@ -70,7 +70,7 @@ pub(crate) fn owes_in(debts: &[Debt], period: u64) -> bool
 }
 
 /// What the debts of a period, of a day or later, exceed its credit by.
-pub(crate) fn excess_in(position: &Position, day: u64, period: u64) -> u64
+pub(crate) fn excess_in(position: &Position, day: u32, period: u32) -> u64
     requires admissible { Admissible (position_of position.now) }
     ensures debts_above_credit { result ≡ excess (position_of position.now) day period }
 {
@@ -78,7 +78,7 @@ pub(crate) fn excess_in(position: &Position, day: u64, period: u64) -> u64
 }
 
 /// The same for the period of the debt at this place, where it is the last of its period, and else 0: each period counts once.
-pub(crate) fn excess_at(position: &Position, day: u64, place: usize) -> u64
+pub(crate) fn excess_at(position: &Position, day: u32, place: usize) -> u64
     requires admissible { Admissible (position_of position.now) }
     requires within { place < length position.now.debts.now }
     ensures once_a_period { result ≡ cond (owes_in (drop (place + 1) position.now.debts.now) (slice_index_or position.now.debts.now place no_debt).period)
@@ -93,7 +93,7 @@ pub(crate) fn excess_at(position: &Position, day: u64, place: usize) -> u64
 }
 
 /// What the debts of a day or later exceed the credits by, period by period.
-pub(crate) fn uncredited_from(position: &Position, day: u64) -> u64
+pub(crate) fn uncredited_from(position: &Position, day: u32) -> u64
     requires admissible { Admissible (position_of position.now) }
     ensures sum_over_the_periods { result ≡ uncredited (position_of position.now) day }
     ensures still_fits { result < 2 ^ 63 }

@@ -3,11 +3,11 @@ use coverage::{Credit, Debt, Guarantee, Position};
 use std::io;
 
 /// 9 guarantees twice, 6 credits, and 18 debts twice.
-const POSITIONS: u64 = 157_464;
+const POSITIONS: u32 = 157_464;
 
-const FIRST_DAY: u64 = 0;
+const FIRST_DAY: u32 = 0;
 
-const TODAY: u64 = 2;
+const TODAY: u32 = 2;
 
 /// A position of two guarantees, one credit and two debts.
 #[derive(Drop)]
@@ -38,7 +38,7 @@ impl Share {
 }
 
 impl Case {
-    fn numbered(n: u64) -> Case {
+    fn numbered(n: u32) -> Case {
         Case {
             guarantees: [guarantee(n % 9), guarantee(n / 9 % 9)],
             credits: [credit(n / 81 % 6)],
@@ -105,29 +105,32 @@ impl Case {
 }
 
 /// Valid to day 0, to day 1 or without last day, and worth 0, 1 or 2.
-fn guarantee(n: u64) -> Guarantee {
+fn guarantee(n: u32) -> Guarantee {
     let last = match n / 3 % 3 {
         0 => Some(0),
         1 => Some(1),
         _ => None,
     };
-    Guarantee { last, worth: n % 3 }
+    Guarantee {
+        last,
+        worth: u64::from(n % 3),
+    }
 }
 
 /// Of period 0 or 1, and 0, 1 or 2 grains.
-fn credit(n: u64) -> Credit {
+fn credit(n: u32) -> Credit {
     Credit {
         period: n / 3 % 2,
-        grains: n % 3,
+        grains: u64::from(n % 3),
     }
 }
 
 /// Of day 0, 1 or 2 and period 0 or 1, and 0, 1 or 2 grains.
-fn debt(n: u64) -> Debt {
+fn debt(n: u32) -> Debt {
     Debt {
         day: n / 6 % 3,
         period: n / 3 % 2,
-        grains: n % 3,
+        grains: u64::from(n % 3),
     }
 }
 

@@ -2,15 +2,16 @@
 use Rattle.std.proofs.Common.{◌≡◌, ℕ, ◌+◌, ◌<◌, ◌≤◌, Bool, true, false, cond, ltb, List, [], ◌∷◌, ◌++◌, length, drop, Some, None, Ok, Err, Option, Result, sym, refl, ap, ◌∙◌, subst, arith, length-append}
 use Rattle.std.proofs.lemmas.Bool.Decides.{nat_tests}
 use Rattle.records.specs.declared.answer.Answer.{Answer}
+use Rattle.records.specs.declared.call.Call.TheVariants.{Admit, Post, Return, Query}
 use Rattle.records.specs.Refusals.{◌when◌, due, Smallest}
 use Rattle.records.proofs.Refusing.{due_first, due_second, due_smallest, rises}
 use Rattle.wire.specs.Lines.{fronted}
-use Rattle.commands.specs.declared.command.Command.{Command}
-use Rattle.commands.specs.declared.fault.LineFault.{LineFault}
-use Rattle.commands.specs.declared.fault.LineFault.TheVariants.{BufferTooShort, LineTooLong}
-use Rattle.desk.specs.declared.refused.Refused.{Refused}
-use Rattle.commands.specs.Faults.{rank}
-use Rattle.commands.specs.Commands.{Kind, opens, admits, posts, returns, proposes, fills, withdraws, queries, kind_of, form_after, command_after, line_form, command_of}
+use Rattle.desk.specs.declared.command.Command.{Command}
+use Rattle.desk.specs.declared.fault.LineFault.{LineFault}
+use Rattle.desk.specs.declared.fault.LineFault.TheVariants.{BufferTooShort, LineTooLong}
+use Rattle.desk.specs.declared.fault.Refused.{Refused}
+use Rattle.desk.specs.Faults.{rank}
+use Rattle.desk.specs.Commands.{Kind, opens, admits, posts, returns, queries, kind_of, form_after, command_after, line_form, command_of}
 use Rattle.desk.specs.Lines.{Books, Done, Handled, Commanded, CommandedBy, Answered, line_causes, causes, against_books, text, told}
 
 module _ (line : List ℕ) (before after : Books) where
@@ -45,12 +46,6 @@ rises_kind short long (Some posts) rest None = refl
 rises_kind short long (Some posts) rest (Some s) = refl
 rises_kind short long (Some returns) rest None = refl
 rises_kind short long (Some returns) rest (Some s) = refl
-rises_kind short long (Some proposes) rest None = refl
-rises_kind short long (Some proposes) rest (Some s) = refl
-rises_kind short long (Some fills) rest None = refl
-rises_kind short long (Some fills) rest (Some s) = refl
-rises_kind short long (Some withdraws) rest None = refl
-rises_kind short long (Some withdraws) rest (Some s) = refl
 rises_kind short long (Some queries) rest None = refl
 rises_kind short long (Some queries) rest (Some s) = refl
 

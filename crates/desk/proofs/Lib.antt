@@ -1,6 +1,4 @@
-pub mod Numbering
-pub mod Sending
+pub mod Letters
 pub mod Commanding
-pub mod Desks
 pub mod Opening
 pub mod Handling

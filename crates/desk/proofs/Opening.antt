@@ -1,5 +1,5 @@
 -- A book opened by a line follows the market named. Assumes nothing.
-use Rattle.std.proofs.Common.{◌≡◌, true, false, [], ◌∷◌, ◌++◌, is_some, Some, None, Ok, Option, sym, refl, ap, ◌∙◌, subst, inl}
+use Rattle.std.proofs.Common.{◌≡◌, false, [], ◌∷◌, ◌++◌, is_some, Some, None, Ok, Option, sym, refl, ap, ◌∙◌, subst, inl}
 use Rattle.std.specs.Option.{option_map}
 use Rattle.market.specs.declared.any.Market.{Market}
 use Rattle.market.specs.declared.any.Market.TheVariants as market
@@ -14,14 +14,12 @@ use Rattle.records.proofs.Refusing.{due_second}
 use Rattle.book.specs.declared.tables.Book as tables
 use Rattle.book.specs.Opening.{Opens, Published}
 use Rattle.book.specs.View.{state}
-use Rattle.commands.specs.declared.command.Command.TheVariants.{Open}
-use Rattle.commands.specs.declared.command.MarketName.{MarketName}
-use Rattle.commands.specs.declared.command.MarketName.TheVariants.{Xbid, Mpeg, Pce}
-use Rattle.commands.specs.declared.fault.LineFault.TheVariants.{AlreadyOpen, Book}
-use Rattle.commands.specs.Commands.{Follows}
-use Rattle.desk.specs.Numbers.{book_numbers_used, numbers_used}
+use Rattle.desk.specs.declared.command.Command.TheVariants.{Open}
+use Rattle.desk.specs.declared.command.MarketName.{MarketName}
+use Rattle.desk.specs.declared.command.MarketName.TheVariants.{Xbid, Mpeg, Pce}
+use Rattle.desk.specs.declared.fault.LineFault.TheVariants.{AlreadyOpen, Book}
+use Rattle.desk.specs.Commands.{Follows}
 use Rattle.desk.specs.Lines.{Books, Fresh, Commanded, CommandedBy, against_book, of_book, zeros}
-use Rattle.desk.proofs.Numbering.{used_opened}
 use Rattle.desk.proofs.Commanding.{due_of_book}
 
 -- a desk has a book exactly where its book's state is seen
@@ -65,8 +63,3 @@ module _ (name : MarketName) (terms : Terms) where
       Opens any rule (record {}) terms (Ok book) → Commanded (Open name terms) before (Ok zeros) (Some (state book))
   opened_command before rule book closed f o =
       subst (λ d. CommandedBy d (Open name terms) before (Ok zeros) (Some (state book))) (sym (none_due before o.0 closed)) (inl (refl, fresh rule book f o))
-
--- a book that was just opened has no proposals
-pub opened_used : (rule : Market) (terms : Terms) (book : tables.Book Market Weeks) → Opens any rule (record {}) terms (Ok book) → book_numbers_used (Some book) ≡ true
-opened_used rule terms book o =
-    subst (λ x. numbers_used x.participants x.proposals ≡ true) (sym o.1) (used_opened [])

@@ -1,2 +1,3 @@
-pub mod Numbers
+pub mod Faults
+pub mod Commands
 pub mod Lines

@@ -4,29 +4,26 @@ use Rattle.std.specs.Option.{option_map}
 use Rattle.market.specs.declared.any.Market.{Market}
 use Rattle.market.specs.declared.weeks.Weeks.{Weeks}
 use Rattle.market.specs.Rules.{any}
-use Rattle.market.specs.Calendars.{week}
 use Rattle.records.specs.declared.answer.Answer.{Answer}
 use Rattle.records.specs.declared.answer.Status.TheVariants.{New}
-use Rattle.records.specs.declared.call.Call.{Call}
-use Rattle.records.specs.declared.call.Call.TheVariants.{Admit, Post, Return, Reserve, Fill, Withdraw, Query}
 use Rattle.records.specs.declared.call.Terms.{Terms}
 use Rattle.records.specs.declared.fault.Fault.{Fault}
 use Rattle.records.specs.declared.fault.Refusal.{Refusal}
 use Rattle.records.specs.Refusals.{Cause, ◌when◌, due}
 use Rattle.records.specs.State.{State, opened}
-use Rattle.records.specs.Calls.{terms_input, input, against, carried, performed, calls, sends}
-use Rattle.records.specs.Calls as request
+use Rattle.records.specs.Capacity.{position}
+use Rattle.records.specs.Calls.{terms_input, input, against, carried, participant_of}
 use Rattle.book.specs.View.{state}
 use Rattle.wire.specs.Lines.{answer_text, refusal_text, fronted, line_room}
-use Rattle.commands.specs.declared.command.Command.{Command}
-use Rattle.commands.specs.declared.command.Command.TheVariants.{Open, Perform}
-use Rattle.commands.specs.declared.command.MarketName.{MarketName}
-use Rattle.commands.specs.declared.fault.LineFault.{LineFault}
-use Rattle.commands.specs.declared.fault.LineFault.TheVariants.{BufferTooShort, LineTooLong, NotOpen, AlreadyOpen, Book, OutOfMemory}
-use Rattle.desk.specs.declared.refused.Refused.{Refused}
+use Rattle.desk.specs.declared.command.Command.{Command}
+use Rattle.desk.specs.declared.command.Command.TheVariants.{Open, Perform}
+use Rattle.desk.specs.declared.command.MarketName.{MarketName}
+use Rattle.desk.specs.declared.fault.LineFault.{LineFault}
+use Rattle.desk.specs.declared.fault.LineFault.TheVariants.{BufferTooShort, LineTooLong, NotOpen, AlreadyOpen, Book, OutOfMemory}
+use Rattle.desk.specs.declared.fault.Refused.{Refused}
 use Rattle.desk.specs.declared.session.Desk.{Desk}
-use Rattle.commands.specs.Faults.{refusal}
-use Rattle.commands.specs.Commands.{Follows, line_form, command_of}
+use Rattle.desk.specs.Faults.{refusal}
+use Rattle.desk.specs.Commands.{Follows, line_form, command_of}
 
 -- the book of a desk, if one is open
 abbrev pub Books : Type 0
@@ -34,10 +31,6 @@ Books = Option (State Market Weeks)
 
 abbrev pub book_of : Desk → Books
 book_of desk = option_map state desk.book
-
--- the settlement periods of the weeks
-abbrev pub weekly : Weeks → ℕ → ℕ
-weekly weeks day = week day
 
 -- the book's causes, as causes of the line
 abbrev pub of_book : List (Cause Fault) → List (Cause LineFault)
@@ -47,7 +40,7 @@ of_book causes = map (λ cause. Book cause.fault when cause.present) causes
 abbrev pub against_book : Command → Books → List (Cause LineFault)
 against_book (Open market terms) book = of_book (terms_input terms) ++ ((AlreadyOpen when is_some book) ∷ [])
 against_book (Perform call) None = of_book (input call) ++ ((NotOpen when true) ∷ [])
-against_book (Perform call) (Some s) = of_book (input call) ++ of_book (against any weekly call s)
+against_book (Perform call) (Some s) = of_book (input call) ++ of_book (against call s)
 
 abbrev pub against_books : Option Command → Books → List (Cause LineFault)
 against_books None book = []
@@ -74,29 +67,6 @@ pub record Fresh (name : MarketName) (terms : Terms) (book : Books) : Type 0 whe
   pub reference : (any.reference rule).cents ≡ terms.reference
   pub empty : book ≡ Some (opened rule (record {}) terms)
 
--- the book after a call that a line gives: a proposal that is reserved is sent at once
-abbrev pub given : Call → State Market Weeks → State Market Weeks
-given (Admit participant vat share) s = carried (Admit participant vat share) s
-given (Post participant guarantee last_day cents) s = carried (Post participant guarantee last_day cents) s
-given (Return participant guarantee) s = carried (Return participant guarantee) s
-given (Reserve participant proposal side kwh limit flow_day) s =
-    performed (sends participant proposal) (carried (Reserve participant proposal side kwh limit flow_day) s)
-given (Fill participant proposal confirmation kwh price) s = carried (Fill participant proposal confirmation kwh price) s
-given (Withdraw participant proposal) s = carried (Withdraw participant proposal) s
-given (Query participant) s = carried (Query participant) s
-
--- what a call that a line gives answers: sending a proposal changes no figure
-abbrev pub answer_to : Call → State Market Weeks → Answer
-answer_to call s = request.reply any weekly (calls call) s
-
--- what a call that a line gives does to the book and answers, by the fault due
-abbrev pub GivesBy : Call → State Market Weeks → Option Fault → Result Answer Fault → State Market Weeks → Type 0
-GivesBy call before (Some fault) r after = (r ≡ Err fault) × (after ≡ before)
-GivesBy call before None r after = (r ≡ Ok (answer_to call before)) × (after ≡ given call before)
-
-abbrev pub Gives : Call → State Market Weeks → Result Answer Fault → State Market Weeks → Type 0
-Gives call before r after = GivesBy call before (due (request.causes any weekly (calls call) before)) r after
-
 -- What a command that nothing is due against does to the book, and answers. Only opening can find no memory. Where nothing is due
 -- there is a command, and a call meets an open book: the two other cases do not occur.
 abbrev pub Done : Option Command → Books → Result Answer LineFault → Books → Type 0
@@ -105,7 +75,7 @@ Done (Some (Open market terms)) before reply after =
     ((reply ≡ Ok zeros) × Fresh market terms after) ⊎ ((reply ≡ Err OutOfMemory) × (after ≡ before))
 Done (Some (Perform call)) None reply after = ⊥
 Done (Some (Perform call)) (Some s) reply after =
-    (reply ≡ Ok (answer_to call s)) × (after ≡ Some (given call s))
+    (reply ≡ Ok (position (carried call s) (participant_of call))) × (after ≡ Some (carried call s))
 
 -- the same by the fault due: with one the line is refused with it, and the book stays
 abbrev pub Handled : Option LineFault → List ℕ → Books → Result Answer LineFault → Books → Type 0

@@ -1,8 +1,7 @@
 -- The loop that fills the open orders of a cell at their limits.
-use Rattle.std.proofs.Common.{◌≡◌, ℕ, ◌+◌, ◌<◌, ◌≤◌, Bool, true, false, cond, List, ◌∷◌, length, get_or, drop, ℤ, pos, ◌*ℤ◌, Option, sym, refl, ap, ◌∙◌, subst, ap₂, arith}
+use Rattle.std.proofs.Common.{◌≡◌, ℕ, ◌+◌, ◌<◌, ◌≤◌, Bool, true, false, cond, List, ◌∷◌, length, get_or, drop, ℤ, pos, ◌*ℤ◌, sym, refl, ap, ◌∙◌, subst, ap₂, arith}
 use Rattle.std.proofs.ByRecursion.{All-from_get_or}
 use Rattle.std.proofs.lemmas.List.{drop_more, drop_all}
-use Rattle.std.specs.Option.{option_to_list}
 use Rattle.std.specs.List.{AllByRecursion as All}
 use Rattle.market.specs.declared.orders.Order.{Order}
 use Rattle.market.specs.declared.orders.Side.{Side}
@@ -11,7 +10,7 @@ use Rattle.market.specs.declared.orders.Proposal.{Proposal}
 use Rattle.market.specs.declared.figures.Amounts.{Amounts}
 use Rattle.market.specs.declared.figures.OpenCell.{OpenCell}
 use Rattle.market.specs.Units.{PriceRange}
-use Rattle.market.specs.Orders.{orders_with, belongs, open_orders, open_energy, no_order}
+use Rattle.market.specs.Orders.{orders_of, belongs, open_orders, open_energy, no_order}
 use Rattle.market.specs.Cells.{its_orders}
 use Rattle.market.specs.Outcomes.{traded}
 use Rattle.market.specs.Limits.{at_limit, at_limits}
@@ -71,12 +70,12 @@ module _ (participant day : ℕ) (chosen : Order → Bool) where
         }
 
   -- over the rows of a table
-  module _ {D : Type 0} {start : Amounts} {all : List Order} {a : Amounts} (rows : List (Proposal D)) (more : Option Order) (i : ℕ) (f : Filling start all a (orders_with (drop i rows) more)) where
-    pub at_row : (row : Proposal D) → row ≡ get_or rows i row → i < length rows → Filling start all a (row.order ∷ orders_with (drop (i + 1) rows) more)
-    at_row row e h = subst (λ (l : List (Proposal D)). Filling start all a (orders_with l more)) (drop_more rows i row h ∙ ap (λ x. x ∷ drop (i + 1) rows) (sym e)) f
+  module _ {D : Type 0} {start : Amounts} {all : List Order} {a : Amounts} (rows : List (Proposal D)) (i : ℕ) (f : Filling start all a (orders_of (drop i rows))) where
+    pub at_row : (row : Proposal D) → row ≡ get_or rows i row → i < length rows → Filling start all a (row.order ∷ orders_of (drop (i + 1) rows))
+    at_row row e h = subst (λ (l : List (Proposal D)). Filling start all a (orders_of l)) (drop_more rows i row h ∙ ap (λ x. x ∷ drop (i + 1) rows) (sym e)) f
 
-    pub past_rows : length rows ≤ i → (last : Option Order) → more ≡ last → Filling start all a (option_to_list last)
-    past_rows h last e = subst (λ (m : Option Order). Filling start all a (option_to_list m)) e (subst (λ (l : List (Proposal D)). Filling start all a (orders_with l more)) (drop_all i rows h) f)
+    pub all_filled : length rows ≤ i → a ≡ at_limits chosen start all
+    all_filled h = sym (ap (λ (l : List (Proposal D)). at_limits chosen a (open_orders participant day (orders_of l))) (drop_all i rows h)) ∙ f.leads
 
-pub none_filled : {D : Type 0} (cell : OpenCell D) (chosen : Order → Bool) → Filling cell.participant cell.day chosen cell.figures.amounts (its_orders cell) cell.figures.amounts (orders_with cell.proposals.now cell.proposed)
+pub none_filled : {D : Type 0} (cell : OpenCell D) (chosen : Order → Bool) → Filling cell.participant cell.day chosen cell.figures.amounts (its_orders cell) cell.figures.amounts (orders_of cell.proposals.now)
 none_filled cell chosen = record { leads = refl; room = cell.few; limits = limits_hold cell }

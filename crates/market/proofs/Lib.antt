@@ -1,5 +1,4 @@
 pub mod Fits
 pub mod Filling
 pub mod Rooms
-pub mod Proposed
 pub mod Range

@@ -11,7 +11,7 @@ use Rattle.market.specs.declared.figures.Amounts.{Amounts}
 use Rattle.market.specs.declared.figures.Figures.{Figures}
 use Rattle.market.specs.declared.figures.OpenCell.{OpenCell}
 use Rattle.market.specs.Units.{PriceRange, VatRange}
-use Rattle.market.specs.Orders.{orders_with, belongs, WithinLimits}
+use Rattle.market.specs.Orders.{orders_of, belongs, WithinLimits}
 use Rattle.market.specs.Cells.{its_orders}
 use Rattle.market.specs.Outcomes.{Fill, value, Fills, Outcome, Possible, traded, after}
 use Rattle.market.specs.Rule.{Valuation, Sound}
@@ -30,7 +30,7 @@ cell_within_limits cell = record {
   paid = cell.figures.paid;
   earned = cell.figures.earned;
   open_still = All-weaker (λ o. belongs cell.participant cell.day o ≡ true) (λ o. 0 < o.kwh) (belongs_open cell.participant cell.day) (its_orders cell)
-      (kept_by_passes (belongs cell.participant cell.day) (orders_with cell.proposals.now cell.proposed));
+      (kept_by_passes (belongs cell.participant cell.day) (orders_of cell.proposals.now));
   limits = limits_hold cell;
 }
 

@@ -1,6 +1,5 @@
 -- The open orders of a cell, and how much a cell can hold.
-use Rattle.std.specs.Prelude.{ℕ, ◌+◌, ◌*◌, ◌<◌, ◌≤◌, Bool, ◌&&◌, List, [], ◌∷◌, ◌++◌, map, length, pos, filter, Option, ◌==◌, nat_lt, slice_index_or, unsigned_abs}
-use Rattle.std.specs.Option.{option_to_list}
+use Rattle.std.specs.Prelude.{ℕ, ◌+◌, ◌*◌, ◌<◌, ◌≤◌, Bool, ◌&&◌, List, [], ◌∷◌, map, length, pos, filter, ◌==◌, nat_lt, slice_index_or, unsigned_abs}
 use Rattle.std.specs.List.{AllByRecursion as All}
 use Rattle.market.specs.declared.orders.Side.TheVariants.{Buy}
 use Rattle.market.specs.declared.orders.Order.{Order}
@@ -11,10 +10,6 @@ use Rattle.market.specs.Units.{PriceRange}
 abbrev pub orders_of : {D : Type 0} → List (Proposal D) → List Order
 orders_of proposals = map (λ p. p.order) proposals
 
--- those of a table, with an order that is not in it yet at the end
-abbrev pub orders_with : {D : Type 0} → List (Proposal D) → Option Order → List Order
-orders_with proposals proposed = orders_of proposals ++ option_to_list proposed
-
 -- an order belongs to the cell of its participant and flow day while it has energy open
 abbrev pub belongs : ℕ → ℕ → Order → Bool
 belongs participant day o = o.participant == participant && (o.day == day && nat_lt 0 o.kwh)
@@ -22,7 +17,7 @@ belongs participant day o = o.participant == participant && (o.day == day && nat
 abbrev pub open_orders : ℕ → ℕ → List Order → List Order
 open_orders participant day orders = filter (belongs participant day) orders
 
--- the open ones of a table of proposals
+-- those of a table of proposals
 abbrev pub open_among : {D : Type 0} → ℕ → ℕ → List (Proposal D) → List Order
 open_among participant day proposals = open_orders participant day (orders_of proposals)
 

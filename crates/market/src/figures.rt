@@ -1,8 +1,8 @@
 //! The figures of a cell, and a cell with the proposals that are open in it.
 ghost use Rattle.std.specs.Prelude.{◌+◌, ◌*◌, ◌≤◌, unsigned_abs};
-ghost use Rattle.market.specs.Orders.{orders_with, open_orders, open_energy, LimitsInRange};
+ghost use Rattle.market.specs.Orders.{open_among, open_energy, LimitsInRange};
 
-use crate::{Order, Proposal};
+use crate::Proposal;
 
 mod checked;
 
@@ -29,12 +29,10 @@ pub struct Figures {
 /// A cell of today: its figures, and a table of proposals in which those of its participant and flow day with energy open are its own.
 #[derive(Drop)]
 pub struct OpenCell<'a, D> {
-    pub participant: u64,
-    pub day: u64,
+    pub participant: u32,
+    pub day: u32,
     pub figures: Figures,
     pub proposals: &'a [Proposal<D>],
-    /// An order that is not in the table yet, and counts as if it stood at its end.
-    pub proposed: Option<Order>,
-    ghost few: { figures.amounts.bought + figures.amounts.sold + open_energy (open_orders participant day (orders_with proposals.now proposed)) ≤ 100000000 },
-    ghost limits: { LimitsInRange (open_orders participant day (orders_with proposals.now proposed)) },
+    ghost few: { figures.amounts.bought + figures.amounts.sold + open_energy (open_among participant day proposals.now) ≤ 100000000 },
+    ghost limits: { LimitsInRange (open_among participant day proposals.now) },
 }

@@ -82,11 +82,5 @@ pub(crate) fn filled_at_limits<D>(cell: &OpenCell<'_, D>, selection: Selection) 
         let in_cell = proposal.order.is_open_in(cell.participant, cell.day);
         figures = with_order(figures, &proposal.order, in_cell, selection);
     }
-    match cell.proposed {
-        Some(order) => {
-            let joins = order.is_open_in(cell.participant, cell.day);
-            with_order(figures, &order, joins, selection)
-        }
-        None => figures,
-    }
+    figures
 }

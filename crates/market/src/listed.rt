@@ -6,7 +6,7 @@ mod checked;
 /// The last days of settlement periods: at most 60, rising, none above 40,000.
 #[derive(Drop)]
 pub struct Listed {
-    days: Vec<u64>,
+    days: Vec<u32>,
     ghost short: { length days.items ≤ 60 },
     ghost rising: { (k : ℕ) → suc k < length days.items → slice_index days.items k < slice_index days.items (suc k) },
     ghost dated: { (k : ℕ) → k < length days.items → slice_index days.items k ≤ 40000 },

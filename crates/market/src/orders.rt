@@ -11,9 +11,9 @@ pub enum Side {
 /// What a market rule has to know of a proposal.
 #[derive(Clone, Copy, Drop)]
 pub struct Order {
-    pub participant: u64,
+    pub participant: u32,
     /// The flow day, on which the energy is delivered.
-    pub day: u64,
+    pub day: u32,
     pub side: Side,
     /// The limit price: the highest of a purchase, the lowest of a sale.
     pub limit: i32,
@@ -23,7 +23,7 @@ pub struct Order {
 
 impl Order {
     /// Whether the order has energy open in the cell of this participant and flow day.
-    pub fn is_open_in(&self, participant: u64, day: u64) -> bool
+    pub fn is_open_in(&self, participant: u32, day: u32) -> bool
         ensures is_the_test { result ≡ belongs participant day self.now }
     {
         self.participant == participant && self.day == day && self.kwh > 0

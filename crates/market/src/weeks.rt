@@ -12,7 +12,7 @@ impl Calendar for Weeks {
 
     ghost ranged = { Prim.search rules };
 
-    fn period(&self, day: u64) -> u64 {
+    fn period(&self, day: u32) -> u32 {
         day / 7
     }
 }

@@ -1,10 +1,5 @@
 pub mod Searches
 pub mod Refusing
-pub mod Performing
-pub mod Every
-pub mod Energy
-pub mod Keys
-pub mod Cells
 pub mod Ranges
-pub mod Keeping
-pub mod Within
+pub mod Capacities
+pub mod Performing

@@ -1,9 +1,8 @@
 -- The fault due, over one table of causes and over two. Assumes nothing.
-use Rattle.std.proofs.Common.{◌≡◌, ℕ, ◌+◌, ◌≤◌, Bool, true, false, cond, ◌&&◌, leb, List, [], ◌∷◌, ◌++◌, Some, None, Ok, Err, Option, refl, ap, inl, inr, arith}
+use Rattle.std.proofs.Common.{◌≡◌, ℕ, ◌+◌, ◌*◌, ◌<◌, ◌≤◌, Bool, true, false, cond, ◌&&◌, leb, ◌⊎◌, List, [], ◌∷◌, ◌++◌, Some, None, Ok, Err, Option, Result, sym, refl, ap, ◌∙◌, inl, inr, arith}
 use Rattle.std.specs.List.{AllByRecursion as All}
-use Rattle.std.proofs.lemmas.Bool.{and_parts}
 use Rattle.std.proofs.lemmas.Bool.Decides.{nat_tests}
-use Rattle.records.specs.Refusals.{Cause, ◌when◌, due, Smallest, cleared}
+use Rattle.records.specs.Refusals.{Cause, ◌when◌, due, Present, Smallest, cleared}
 
 module _ {F : Type 0} where
   -- what a check that passed, or did not, says of the fault due
@@ -45,6 +44,14 @@ module _ {F : Type 0} where
   all_absent [] e = tt
   all_absent (x ∷ xs) e = absent_by x.present x xs refl (all_absent xs) e
 
+and_left : (a b : Bool) → (a && b) ≡ true → a ≡ true
+and_left true b e = refl
+and_left false b e = e
+
+and_right : (a b : Bool) → (a && b) ≡ true → b ≡ true
+and_right true b e = e
+and_right false b e = absurd (let z : ◌≡◌ {A = ℕ} 0 1 = cc in omega arith)
+
 module _ {F : Type 0} (rank : F → ℕ) where
   -- every cause of a table ranks at least as high as a number
   abbrev from : ℕ → List (Cause F) → Bool
@@ -58,7 +65,7 @@ module _ {F : Type 0} (rank : F → ℕ) where
 
   all_from : (n : ℕ) (xs : List (Cause F)) → from n xs ≡ true → All (λ x. x.present ≡ true → n ≤ rank x.fault) xs
   all_from n [] e = tt
-  all_from n (x ∷ xs) e = (λ p. let h = (and_parts (leb n (rank x.fault)) (from n xs) e).0 in grind (arith, nat_tests), all_from n xs (and_parts (leb n (rank x.fault)) (from n xs) e).1)
+  all_from n (x ∷ xs) e = (λ p. let h = and_left (leb n (rank x.fault)) (from n xs) e in grind (arith, nat_tests), all_from n xs (and_right (leb n (rank x.fault)) (from n xs) e))
 
   later : (x : Cause F) (xs : List (Cause F)) (o : Option F) → x.present ≡ false → Smallest rank xs o → Smallest rank (x ∷ xs) o
   later x xs None e s = (e, s)
@@ -73,4 +80,5 @@ module _ {F : Type 0} (rank : F → ℕ) where
   pub due_smallest : (xs : List (Cause F)) → rises xs ≡ true → Smallest rank xs (due xs)
   due_smallest [] e = tt
   due_smallest (x ∷ xs) e =
-      let h = and_parts (from (rank x.fault) xs) (rises xs) e in smallest_by x.present x xs refl h.0 (due_smallest xs h.1)
+      smallest_by x.present x xs refl (and_left (from (rank x.fault) xs) (rises xs) e)
+      (due_smallest xs (and_right (from (rank x.fault) xs) (rises xs) e))

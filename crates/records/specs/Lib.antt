@@ -2,6 +2,5 @@ pub mod Refusals
 pub mod Tables
 pub mod Rows
 pub mod State
-pub mod Snapshots
-pub mod Invariants
+pub mod Capacity
 pub mod Calls

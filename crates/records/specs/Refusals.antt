@@ -3,10 +3,8 @@ use Rattle.std.specs.Prelude.{◌≡◌, ℕ, ◌+◌, ◌*◌, ◌≤◌, Bool,
 use Rattle.std.specs.List.{AllByRecursion as All}
 use Rattle.market.specs.declared.listed.ListFault.{ListFault}
 use Rattle.records.specs.declared.fault.Fault.{Fault}
-use Rattle.records.specs.declared.fault.Fault.TheVariants.{NumberOutOfRange, EnergyOutOfRange, PriceOutOfRange, RateOutOfRange, AmountOutOfRange, DayOutOfRange, UnknownParticipant, AlreadyAdmitted, UnknownGuarantee, UnknownProposal, NumberUsed, DayPast, TableFull, CellLimit, Uncovered, ConfirmationOutOfOrder, WrongStage, AboveOpen, WorseThanLimit}
+use Rattle.records.specs.declared.fault.Fault.TheVariants.{NumberOutOfRange, PriceOutOfRange, RateOutOfRange, AmountOutOfRange, DayOutOfRange, UnknownParticipant, AlreadyAdmitted, UnknownGuarantee, NumberUsed, DayPast, TableFull}
 use Rattle.records.specs.declared.fault.Layer.TheVariants.{Book}
-use Rattle.records.specs.declared.fault.OpenFault.{OpenFault}
-use Rattle.records.specs.declared.fault.OpenFault.TheVariants.{Refused, OutOfMemory}
 use Rattle.records.specs.declared.fault.Refusal.{Refusal}
 
 -- a refusal of the book: its number, and the place of the field at fault or 0
@@ -16,7 +14,6 @@ of_book number place = record { number = number; layer = Book; place = place }
 -- how each fault is answered
 abbrev pub refusal : Fault → Refusal
 refusal (NumberOutOfRange place) = of_book 105 place
-refusal (EnergyOutOfRange place) = of_book 106 place
 refusal (PriceOutOfRange place) = of_book 107 place
 refusal (RateOutOfRange place) = of_book 108 place
 refusal (AmountOutOfRange place) = of_book 109 place
@@ -24,27 +21,13 @@ refusal (DayOutOfRange place) = of_book 110 place
 refusal UnknownParticipant = of_book 211 0
 refusal AlreadyAdmitted = of_book 212 0
 refusal UnknownGuarantee = of_book 213 0
-refusal UnknownProposal = of_book 213 0
 refusal NumberUsed = of_book 214 0
 refusal DayPast = of_book 215 0
 refusal TableFull = of_book 216 0
-refusal CellLimit = of_book 217 0
-refusal Uncovered = of_book 218 0
-refusal ConfirmationOutOfOrder = of_book 219 0
-refusal WrongStage = of_book 220 0
-refusal AboveOpen = of_book 221 0
-refusal WorseThanLimit = of_book 222 0
 
 -- a calendar list that is refused, for whatever reason, is a day out of range at no field
 abbrev pub of_list : ListFault → Fault
 of_list fault = DayOutOfRange 0
-
--- why a book is not opened: the fault of its terms, carried whole, or want of memory
-abbrev pub not_opened : Fault → OpenFault
-not_opened fault = Refused fault
-
-abbrev pub out_of_memory : OpenFault
-out_of_memory = OutOfMemory
 
 -- A reason to refuse a call: the fault, and whether its condition holds.
 pub record Cause (F : Type 0) : Type 0 where

@@ -1,11 +1,8 @@
 -- What a book holds: its terms and its tables. Assumes nothing.
-use Rattle.std.specs.Prelude.{ℕ, List, []}
-use Rattle.market.specs.declared.orders.Proposal.{Proposal}
+use Rattle.std.specs.Prelude.{ℕ, List, [], ℤ}
 use Rattle.records.specs.declared.call.Terms.{Terms}
 use Rattle.records.specs.declared.rows.Participant.{Participant}
 use Rattle.records.specs.declared.rows.Guarantee.{Guarantee}
-use Rattle.records.specs.declared.rows.Details.{Details}
-use Rattle.records.specs.declared.rows.Cell.{Cell}
 
 pub record State (R C : Type 0) : Type 0 where
   -- the market rule and the settlement calendar
@@ -15,9 +12,6 @@ pub record State (R C : Type 0) : Type 0 where
   pub today : ℕ
   pub participants : List Participant
   pub guarantees : List Guarantee
-  -- in the order of reservation
-  pub proposals : List (Proposal Details)
-  pub cells : List Cell
 
 module _ {R C : Type 0} where
   -- a book that was just opened
@@ -29,19 +23,15 @@ module _ {R C : Type 0} where
     today = terms.first_day;
     participants = [];
     guarantees = [];
-    proposals = [];
-    cells = [];
   }
 
   -- a book with other tables
-  abbrev pub with_tables : State R C → List Participant → List Guarantee → List (Proposal Details) → List Cell → State R C
-  with_tables s participants guarantees proposals cells = record {
+  abbrev pub with_tables : State R C → List Participant → List Guarantee → State R C
+  with_tables s participants guarantees = record {
     rule = s.rule;
     calendar = s.calendar;
     terms = s.terms;
     today = s.today;
     participants = participants;
     guarantees = guarantees;
-    proposals = proposals;
-    cells = cells;
   }

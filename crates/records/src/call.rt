@@ -2,10 +2,9 @@
 
 ghost use Rattle.std.specs.Prelude.{◌≡◌};
 ghost use Rattle.records.specs.Refusals.{cleared, due, fault_if, outside};
-ghost use Rattle.records.specs.Calls.{input, numbers_input, terms_input, day_outside, price_outside};
+ghost use Rattle.records.specs.Calls.{input, terms_input, day_outside, price_outside};
 
 use crate::fault::Fault;
-use market::Side;
 
 /// The terms on which a book is opened.
 #[derive(Clone, Copy)]
@@ -17,8 +16,7 @@ pub struct Terms {
     pub reference: i64,
 }
 
-/// A call of an open book. Arguments are as wide as a line can write them; each call checks its own. To send or to drop what
-/// was reserved is no call of this kind: it takes the reservation and no other argument.
+/// A call of an open book. Arguments are as wide as a line can write them; each call checks its own.
 #[derive(Clone, Copy)]
 pub enum Call {
     Admit {
@@ -35,25 +33,6 @@ pub enum Call {
     Return {
         participant: u64,
         guarantee: u64,
-    },
-    Reserve {
-        participant: u64,
-        proposal: u64,
-        side: Side,
-        kwh: u64,
-        limit: i64,
-        flow_day: u64,
-    },
-    Fill {
-        participant: u64,
-        proposal: u64,
-        confirmation: u64,
-        kwh: u64,
-        price: i64,
-    },
-    Withdraw {
-        participant: u64,
-        proposal: u64,
     },
     Query {
         participant: u64,
@@ -87,11 +66,6 @@ const SHARE: Range = Range {
 const CENTS: Range = Range {
     least: 1,
     most: 100_000_000_000,
-};
-
-const ENERGY: Range = Range {
-    least: 1,
-    most: 1_000_000,
 };
 
 const DAY: Range = Range {
@@ -158,48 +132,17 @@ fn check_post(
 ) -> Result<(), Fault>
     ensures fault_due_for_the_input { result ≡ cleared (due (input (Call.Post participant guarantee last_day cents))) }
 {
-    check_numbers(participant, guarantee)?;
+    check_guarantee(participant, guarantee)?;
     CENTS.check(cents, Fault::AmountOutOfRange { place: 5 })?;
     day_in_range(last_day, Fault::DayOutOfRange { place: 4 })
 }
 
-/// The numbers of a participant and of its guarantee or proposal.
-fn check_numbers(participant: u64, number: u64) -> Result<(), Fault>
-    ensures fault_due_for_the_input { result ≡ cleared (due (numbers_input participant number)) }
+/// The numbers of a participant and of its guarantee.
+fn check_guarantee(participant: u64, guarantee: u64) -> Result<(), Fault>
+    ensures fault_due_for_the_input { result ≡ cleared (due (input (Call.Return participant guarantee))) }
 {
     PARTICIPANT.check(participant, Fault::NumberOutOfRange { place: 2 })?;
-    NUMBER.check(number, Fault::NumberOutOfRange { place: 3 })
-}
-
-fn check_reserve(
-    participant: u64,
-    proposal: u64,
-    side: Side,
-    kwh: u64,
-    limit: i64,
-    flow_day: u64,
-) -> Result<(), Fault>
-    ensures fault_due_for_the_input { result ≡ cleared (due (input (Call.Reserve participant proposal side kwh limit flow_day))) }
-{
-    check_numbers(participant, proposal)?;
-    ENERGY.check(kwh, Fault::EnergyOutOfRange { place: 5 })?;
-    price_in_range(limit, Fault::PriceOutOfRange { place: 6 })?;
-    DAY.check(flow_day, Fault::DayOutOfRange { place: 7 })
-}
-
-fn check_fill(
-    participant: u64,
-    proposal: u64,
-    confirmation: u64,
-    kwh: u64,
-    price: i64,
-) -> Result<(), Fault>
-    ensures fault_due_for_the_input { result ≡ cleared (due (input (Call.Fill participant proposal confirmation kwh price))) }
-{
-    check_numbers(participant, proposal)?;
-    NUMBER.check(confirmation, Fault::NumberOutOfRange { place: 4 })?;
-    ENERGY.check(kwh, Fault::EnergyOutOfRange { place: 5 })?;
-    price_in_range(price, Fault::PriceOutOfRange { place: 6 })
+    NUMBER.check(guarantee, Fault::NumberOutOfRange { place: 3 })
 }
 
 impl Call {
@@ -222,26 +165,7 @@ impl Call {
             Call::Return {
                 participant,
                 guarantee,
-            } => check_numbers(participant, guarantee),
-            Call::Reserve {
-                participant,
-                proposal,
-                side,
-                kwh,
-                limit,
-                flow_day,
-            } => check_reserve(participant, proposal, side, kwh, limit, flow_day),
-            Call::Fill {
-                participant,
-                proposal,
-                confirmation,
-                kwh,
-                price,
-            } => check_fill(participant, proposal, confirmation, kwh, price),
-            Call::Withdraw {
-                participant,
-                proposal,
-            } => check_numbers(participant, proposal),
+            } => check_guarantee(participant, guarantee),
             Call::Query { participant } => {
                 PARTICIPANT.check(participant, Fault::NumberOutOfRange { place: 2 })
             }

@@ -1,10 +1,9 @@
 //! Why the book refuses a call, and how a refusal is numbered.
 
 ghost use Rattle.std.specs.Prelude.{◌≡◌};
-ghost use Rattle.records.specs.Refusals.{refusal, of_list, not_opened, out_of_memory};
+ghost use Rattle.records.specs.Refusals.{refusal, of_list};
 
 use market::ListFault;
-use std::alloc::AllocError;
 
 /// Who refuses: the line as a whole, one of its fields, or the book.
 #[derive(Clone, Copy)]
@@ -26,11 +25,9 @@ pub struct Refusal {
 /// Why the book refuses a call. A fault of an argument has the place of its field.
 #[derive(Clone, Copy)]
 pub enum Fault {
-    /// A participant's, a guarantee's, a proposal's or a confirmation's number that is out of range.
+    /// A participant's or a guarantee's number that is out of range.
     NumberOutOfRange { place: u8 },
-    /// Energy that is out of range.
-    EnergyOutOfRange { place: u8 },
-    /// A limit, a price or a reference price that is out of range.
+    /// A reference price that is out of range.
     PriceOutOfRange { place: u8 },
     /// A VAT or a margin above 99 percent, or a share above 1,000 thousandths.
     RateOutOfRange { place: u8 },
@@ -41,24 +38,11 @@ pub enum Fault {
     UnknownParticipant,
     AlreadyAdmitted,
     UnknownGuarantee,
-    UnknownProposal,
     /// A number that is not above the last one used.
     NumberUsed,
-    /// A last day or a flow day before today.
+    /// A last day before today.
     DayPast,
     TableFull,
-    /// More energy than a cell may hold.
-    CellLimit,
-    /// The capacity would be below 0.
-    Uncovered,
-    /// A confirmation that skips a number, or repeats the last one with other figures.
-    ConfirmationOutOfOrder,
-    /// A proposal that is not in the stage that the call needs.
-    WrongStage,
-    /// A fill of more than is open.
-    AboveOpen,
-    /// A fill at a price worse than the limit.
-    WorseThanLimit,
 }
 
 /// A calendar list that is refused: no field of a line is at fault.
@@ -70,29 +54,6 @@ impl From<ListFault> for Fault {
     }
 }
 
-/// Why a book is not opened: its terms are refused, or there is no memory for its tables.
-#[derive(Clone, Copy)]
-pub enum OpenFault {
-    Refused(Fault),
-    OutOfMemory,
-}
-
-impl From<Fault> for OpenFault {
-    ghost from_gives = { λ fault r. r ≡ not_opened fault };
-
-    fn from(fault: Fault) -> OpenFault {
-        OpenFault::Refused(fault)
-    }
-}
-
-impl From<AllocError> for OpenFault {
-    ghost from_gives = { λ _ r. r ≡ out_of_memory };
-
-    fn from(_error: AllocError) -> OpenFault {
-        OpenFault::OutOfMemory
-    }
-}
-
 impl Fault {
     /// The number, the layer and the place with which it is answered.
     pub fn refusal(self) -> Refusal
@@ -100,23 +61,16 @@ impl Fault {
     {
         let (number, place) = match self {
             Fault::NumberOutOfRange { place } => (105, place),
-            Fault::EnergyOutOfRange { place } => (106, place),
             Fault::PriceOutOfRange { place } => (107, place),
             Fault::RateOutOfRange { place } => (108, place),
             Fault::AmountOutOfRange { place } => (109, place),
             Fault::DayOutOfRange { place } => (110, place),
             Fault::UnknownParticipant => (211, 0),
             Fault::AlreadyAdmitted => (212, 0),
-            Fault::UnknownGuarantee | Fault::UnknownProposal => (213, 0),
+            Fault::UnknownGuarantee => (213, 0),
             Fault::NumberUsed => (214, 0),
             Fault::DayPast => (215, 0),
             Fault::TableFull => (216, 0),
-            Fault::CellLimit => (217, 0),
-            Fault::Uncovered => (218, 0),
-            Fault::ConfirmationOutOfOrder => (219, 0),
-            Fault::WrongStage => (220, 0),
-            Fault::AboveOpen => (221, 0),
-            Fault::WorseThanLimit => (222, 0),
         };
         Refusal {
             number,

@@ -8,8 +8,6 @@ mod search;
 
 pub use answer::{Answer, Status};
 pub use call::{Call, Terms};
-pub use fault::{Fault, Layer, OpenFault, Refusal};
-pub use rows::{
-    Cell, CellKey, Confirmation, Details, Guarantee, GuaranteeKey, Participant, ProposalKey, Stage,
-};
+pub use fault::{Fault, Layer, Refusal};
+pub use rows::{Guarantee, GuaranteeKey, Participant};
 pub use search::{Keyed, position};

@@ -1,12 +1,12 @@
 //! The opening of a book.
 
 ghost use Rattle.std.specs.Prelude.{◌≡◌, ◌≤◌, unsigned_abs};
-ghost use Rattle.journal.specs.Laws.{EveryBookIsAccountedFor};
-ghost use Rattle.book.specs.Opening.{Opens, Begins};
+ghost use Rattle.book.specs.Opening.{Opens};
 
-use crate::tables::{Book, MAX_CELLS, MAX_GUARANTEES, MAX_PARTICIPANTS, MAX_PROPOSALS};
+use crate::fault::OpenFault;
+use crate::tables::{Book, MAX_GUARANTEES, MAX_PARTICIPANTS};
 use market::{Calendar, MarketRule, Price};
-use records::{OpenFault, Terms};
+use records::Terms;
 use std::alloc::Global;
 
 /// A price that was checked.
@@ -29,14 +29,10 @@ impl<R: MarketRule + Drop, C: Calendar + Drop> Book<R, C> {
         terms: Terms,
     ) -> Result<Book<R, C>, OpenFault>
         ensures empty_on_its_terms_or_refused { Opens R.MarketRule.meaning rule calendar terms result }
-        ensures journal_begins { Begins R.MarketRule.meaning C.Calendar.periods calendar terms result }
-        ensures every_book_is_accounted_for { EveryBookIsAccountedFor R.MarketRule.meaning C.Calendar.periods }
     {
         terms.check()?;
         let participants = Vec::with_capacity(heap, MAX_PARTICIPANTS)?;
         let guarantees = Vec::with_capacity(heap, MAX_GUARANTEES)?;
-        let proposals = Vec::with_capacity(heap, MAX_PROPOSALS)?;
-        let cells = Vec::with_capacity(heap, MAX_CELLS)?;
         rule.publish(price(terms.reference));
         Ok(Book {
             rule,
@@ -45,8 +41,6 @@ impl<R: MarketRule + Drop, C: Calendar + Drop> Book<R, C> {
             today: terms.first_day,
             participants,
             guarantees,
-            proposals,
-            cells,
         })
     }
 }

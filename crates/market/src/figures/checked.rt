@@ -44,8 +44,8 @@ impl Figures {
     /// nothing if it holds too much already, or one of its limits is no price.
     pub fn room_beside<D>(
         self,
-        participant: u64,
-        day: u64,
+        participant: u32,
+        day: u32,
         proposals: &[Proposal<D>],
     ) -> Option<u32>
         ensures is_what_is_left_or_they_pass_a_limit { elim result [

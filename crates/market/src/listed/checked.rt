@@ -6,7 +6,7 @@ ghost use Rattle.std.proofs.lemmas.List.Filters.{length-filter_both};
 
 use crate::{Calendar, ListFault, Listed};
 
-fn rises(days: &[u64]) -> bool
+fn rises(days: &[u32]) -> bool
     ensures tells_whether { MatchBool result (Rising days.now) (Rising days.now → ⊥) }
 {
     for k in 1..days.len() {
@@ -17,7 +17,7 @@ fn rises(days: &[u64]) -> bool
     true
 }
 
-fn is_in_calendar(days: &[u64]) -> bool
+fn is_in_calendar(days: &[u32]) -> bool
     ensures tells_whether { MatchBool result (InCalendar days.now) (InCalendar days.now → ⊥) }
 {
     for day in days {
@@ -28,7 +28,7 @@ fn is_in_calendar(days: &[u64]) -> bool
     true
 }
 
-fn days_before(day: u64, days: &[u64]) -> usize
+fn days_before(day: u32, days: &[u32]) -> usize
     ensures is_how_many { result ≡ last_days_before day days.now }
     ensures is_no_more_than_all { result ≤ length days.now }
 {
@@ -42,7 +42,7 @@ fn days_before(day: u64, days: &[u64]) -> usize
 }
 
 impl Listed {
-    pub fn new(days: Vec<u64>) -> Result<Listed, ListFault>
+    pub fn new(days: Vec<u32>) -> Result<Listed, ListFault>
         ensures holds_the_days_or_tells_the_fault { elim result [ Ok listed ↦ listed.days.items ≡ days.items | Err fault ↦ Due fault days.items ] }
     {
         if days.len() > 60 {
@@ -64,7 +64,7 @@ impl Calendar for Listed {
     // a list of 60 days has no more than 60 days before another
     ghost ranged = { λ listed day h. omega (arith, length-filter_both (λ last. ltb last day) (λ last. not (nat_lt last day)) (λ last. refl) listed.days.items, listed.short) };
 
-    fn period(&self, day: u64) -> u64 {
-        days_before(day, &self.days) as u64
+    fn period(&self, day: u32) -> u32 {
+        days_before(day, &self.days) as u32
     }
 }

@@ -9,4 +9,4 @@ guaranteed-on-requires c = record { fits = omega (arith, guarantees_limit (posit
 
 pub returns : goal.returns
 returns c =
-    record { valid-guarantees-less-debts-above-credit = omega (arith, ints, c.guaranteed-on.ensures.sum-of-the-valid, c.uncredited-from.ensures.sum-over-the-periods) }
+    record { valid-guarantees-less-debts-above-credit = omega (arith, ints, c.guaranteed_on.ensures.sum-of-the-valid, c.uncredited-from.ensures.sum-over-the-periods) }

@@ -1,8 +1,15 @@
-use Rattle.std.proofs.Common.{vec_items, sym, arith}
+use Rattle.std.proofs.Common.{◌≡◌, Some, vec_items, sym, arith}
 use Rattle.records.specs.Rows.{is_participant}
+use Rattle.records.specs.Tables.{find}
 use Rattle.book.specs.View.{state}
-use Rattle.book.proofs.Permitting.{row_found, number_used, too_late, guarantees_full, postable}
+use Rattle.book.proofs.Permitting.{row_found, post_unknown, number_used, too_late, guarantees_full, postable}
 use Rattle.book.proofs.tables.Book.may_post.Goals as goal
+
+pub returns-in-default : goal.returns-in-default
+returns-in-default g c = record {
+  fault-due-or-its-row =
+      post_unknown (state c.args.self.now) c.args.guarantee.now.participant _ _ c.in-default.ensures.where-known;
+}
 
 pub returns-then-guarantee-index : goal.returns-then-guarantee-index
 returns-then-guarantee-index g c =

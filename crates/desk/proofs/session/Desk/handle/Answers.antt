@@ -1,6 +1,6 @@
 use Rattle.std.proofs.Common.{Some, refl, ap, ◌∙◌, rules}
 use Rattle.std.proofs.lemmas.Result.{err_from_is_err_and}
-use Rattle.commands.specs.declared.command.Command.TheVariants.{Open, Perform}
+use Rattle.desk.specs.declared.command.Command.TheVariants.{Open, Perform}
 use Rattle.desk.specs.Lines.{book_of}
 use Rattle.desk.proofs.Handling.{handled_form, handled_command}
 use Rattle.desk.proofs.session.Desk.handle.Goals as goal

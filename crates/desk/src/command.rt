@@ -1,0 +1,38 @@
+//! The commands that lines give.
+
+ghost use Rattle.desk.specs.Commands.{Follows};
+
+use market::{Market, Mpeg, Pce, Price, Xbid};
+use records::{Call, Terms};
+
+/// The market that a line names for its book.
+#[derive(Clone, Copy)]
+pub enum MarketName {
+    /// MI-XBID, the letter X.
+    Xbid,
+    /// MPEG, the letter M.
+    Mpeg,
+    /// PCE, the letter P.
+    Pce,
+}
+
+/// What a line asks for: to open the book, or a call of the open book.
+#[derive(Clone, Copy)]
+pub enum Command {
+    Open { market: MarketName, terms: Terms },
+    Perform(Call),
+}
+
+impl MarketName {
+    /// The rule of the market, at a reference price of 0 until one is published.
+    pub fn rule(self) -> Market
+        ensures of_that_market { Follows self result }
+    {
+        let reference = Price { cents: 0 };
+        match self {
+            MarketName::Xbid => Market::Xbid(Xbid { reference }),
+            MarketName::Mpeg => Market::Mpeg(Mpeg { reference }),
+            MarketName::Pce => Market::Pce(Pce { reference }),
+        }
+    }
+}

@@ -1,0 +1,208 @@
+//! The reading of a line: its letter chooses the command, the rest are its fields.
+
+ghost use Rattle.std.specs.Prelude.{◌≡◌};
+ghost use Rattle.records.specs.Refusals.{fault_if};
+ghost use Rattle.wire.specs.Fields.{fields};
+ghost use Rattle.wire.specs.Numbers.{number_of, price_of, last_day_of};
+ghost use Rattle.desk.specs.Commands.{NextField, Ended, One, Two, Three, Four};
+ghost use Rattle.desk.specs.Commands.{held_at, market_of, unknown_market, Led, Reads, Takes, opens, admits, posts, returns, queries};
+ghost use Rattle.desk.specs.declared.fault.LineFault.TheVariants.{UnknownLetter, NotANumber};
+
+use crate::command::{Command, MarketName};
+use crate::fault::LineFault;
+use records::{Call, Terms};
+use wire::{Field, Reader};
+
+/// The next field, which has to be there.
+fn next<'a>(reader: &mut Reader<'a>) -> Result<Field<'a>, LineFault>
+    ensures next_field_or_too_few { NextField reader.old result reader.new }
+{
+    match reader.next_field() {
+        Some(field) => Ok(field),
+        None => Err(LineFault::WrongFieldCount),
+    }
+}
+
+/// That no field is left.
+fn end(reader: &mut Reader) -> Result<(), LineFault>
+    ensures none_left_or_too_many { Ended reader.old result }
+{
+    match reader.next_field() {
+        Some(_) => Err(LineFault::WrongFieldCount),
+        None => Ok(()),
+    }
+}
+
+fn one(rest: &[u8]) -> Result<Field<'_>, LineFault>
+    ensures just_one_field { One rest.now result }
+{
+    let mut reader = Reader::new(rest);
+    let first = next(&mut reader)?;
+    end(&mut reader)?;
+    Ok(first)
+}
+
+fn two(rest: &[u8]) -> Result<(Field<'_>, Field<'_>), LineFault>
+    ensures just_two_fields { Two rest.now result }
+{
+    let mut reader = Reader::new(rest);
+    let first = next(&mut reader)?;
+    let second = next(&mut reader)?;
+    end(&mut reader)?;
+    Ok((first, second))
+}
+
+fn three(rest: &[u8]) -> Result<(Field<'_>, Field<'_>, Field<'_>), LineFault>
+    ensures just_three_fields { Three rest.now result }
+{
+    let mut reader = Reader::new(rest);
+    let first = next(&mut reader)?;
+    let second = next(&mut reader)?;
+    let third = next(&mut reader)?;
+    end(&mut reader)?;
+    Ok((first, second, third))
+}
+
+fn four(rest: &[u8]) -> Result<(Field<'_>, Field<'_>, Field<'_>, Field<'_>), LineFault>
+    ensures just_four_fields { Four rest.now result }
+{
+    let mut reader = Reader::new(rest);
+    let first = next(&mut reader)?;
+    let second = next(&mut reader)?;
+    let third = next(&mut reader)?;
+    let fourth = next(&mut reader)?;
+    end(&mut reader)?;
+    Ok((first, second, third, fourth))
+}
+
+fn number(field: Field) -> Result<u64, LineFault>
+    ensures number_or_fault_at_its_place { result ≡ held_at (number_of field.entry.bytes.now) (NotANumber field.entry.place) }
+{
+    match wire::number(field.bytes) {
+        Some(n) => Ok(n),
+        None => Err(LineFault::NotANumber { place: field.place }),
+    }
+}
+
+fn price(field: Field) -> Result<i64, LineFault>
+    ensures price_or_fault_at_its_place { result ≡ held_at (price_of field.entry.bytes.now) (NotANumber field.entry.place) }
+{
+    match wire::price(field.bytes) {
+        Some(price) => Ok(price),
+        None => Err(LineFault::NotANumber { place: field.place }),
+    }
+}
+
+fn last_day(field: Field) -> Result<Option<u64>, LineFault>
+    ensures last_day_or_fault_at_its_place { result ≡ held_at (last_day_of field.entry.bytes.now) (NotANumber field.entry.place) }
+{
+    match wire::last_day(field.bytes) {
+        Some(day) => Ok(day),
+        None => Err(LineFault::NotANumber { place: field.place }),
+    }
+}
+
+fn market(field: Field) -> Result<MarketName, LineFault>
+    ensures market_or_fault_at_its_place { result ≡ held_at (market_of field.entry.bytes.now) (UnknownLetter field.entry.place) }
+{
+    match field.bytes {
+        [b'X'] => Ok(MarketName::Xbid),
+        [b'M'] => Ok(MarketName::Mpeg),
+        [b'P'] => Ok(MarketName::Pce),
+        _ => Err(LineFault::UnknownLetter { place: field.place }),
+    }
+}
+
+/// A market that is named wrongly comes before a wrong count of fields.
+fn check_market(rest: &[u8]) -> Result<(), LineFault>
+    ensures fault_at_an_unknown_market { result ≡ fault_if (unknown_market (fields rest.now)) (UnknownLetter 2) }
+{
+    match Reader::new(rest).next_field() {
+        Some(field) => {
+            market(field)?;
+            Ok(())
+        }
+        None => Ok(()),
+    }
+}
+
+fn read_open(rest: &[u8]) -> Result<Command, LineFault>
+    ensures fault_due_or_command { Takes opens rest.now result }
+{
+    check_market(rest)?;
+    let (letter, margin, first_day, reference) = four(rest)?;
+    let market = market(letter)?;
+    let terms = Terms {
+        margin: number(margin)?,
+        first_day: number(first_day)?,
+        reference: price(reference)?,
+    };
+    Ok(Command::Open { market, terms })
+}
+
+fn read_admit(rest: &[u8]) -> Result<Command, LineFault>
+    ensures fault_due_or_command { Takes admits rest.now result }
+{
+    let (participant, vat, share) = three(rest)?;
+    Ok(Command::Perform(Call::Admit {
+        participant: number(participant)?,
+        vat: number(vat)?,
+        share: number(share)?,
+    }))
+}
+
+fn read_post(rest: &[u8]) -> Result<Command, LineFault>
+    ensures fault_due_or_command { Takes posts rest.now result }
+{
+    let (participant, guarantee, day, cents) = four(rest)?;
+    Ok(Command::Perform(Call::Post {
+        participant: number(participant)?,
+        guarantee: number(guarantee)?,
+        last_day: last_day(day)?,
+        cents: number(cents)?,
+    }))
+}
+
+fn read_return(rest: &[u8]) -> Result<Command, LineFault>
+    ensures fault_due_or_command { Takes returns rest.now result }
+{
+    let (participant, guarantee) = two(rest)?;
+    Ok(Command::Perform(Call::Return {
+        participant: number(participant)?,
+        guarantee: number(guarantee)?,
+    }))
+}
+
+fn read_query(rest: &[u8]) -> Result<Command, LineFault>
+    ensures fault_due_or_command { Takes queries rest.now result }
+{
+    let participant = one(rest)?;
+    Ok(Command::Perform(Call::Query {
+        participant: number(participant)?,
+    }))
+}
+
+/// The text after a letter, which has to be empty or to begin with a comma.
+fn fields_text(rest: &[u8]) -> Result<&[u8], LineFault>
+    ensures the_text_or_no_letter { Led rest.now result }
+{
+    match rest {
+        [] | [b',', ..] => Ok(rest),
+        _ => Err(LineFault::UnknownLetter { place: 1 }),
+    }
+}
+
+/// The command of a line, or the smallest number due for its form.
+pub fn read(line: &[u8]) -> Result<Command, LineFault>
+    ensures fault_due_or_command { Reads line.now result }
+{
+    match line {
+        [] => Err(LineFault::UnknownLetter { place: 1 }),
+        [b'O', rest @ ..] => read_open(fields_text(rest)?),
+        [b'A', rest @ ..] => read_admit(fields_text(rest)?),
+        [b'G', rest @ ..] => read_post(fields_text(rest)?),
+        [b'R', rest @ ..] => read_return(fields_text(rest)?),
+        [b'Q', rest @ ..] => read_query(fields_text(rest)?),
+        _ => Err(LineFault::UnknownLetter { place: 1 }),
+    }
+}
