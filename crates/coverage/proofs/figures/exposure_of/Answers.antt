@@ -5,4 +5,4 @@ use Rattle.coverage.proofs.figures.exposure_of.Goals as goal
 
 pub returns : goal.returns
 unfolding exposure
-returns c = record { minus-debts-above-credit = omega (arith, ints, c.uncredited-from.ensures.sum-over-the-periods) }
+returns c = record { minus_debts_above_credit = omega (arith, ints, c.uncredited_from.ensures.sum_over_the_periods) }

@@ -3,8 +3,8 @@ use Rattle.coverage.specs.Allocation.{no_credit}
 use Rattle.coverage.proofs.Running.{running_more, running_le, running_all}
 use Rattle.coverage.proofs.sums.credited_in_all.Goals as goal
 
-pub overflow-add-sum : goal.overflow-add-sum
-overflow-add-sum c =
+pub overflow_add-sum : goal.overflow_add-sum
+overflow_add-sum c =
     record {
       fits = omega (
         arith,
@@ -19,6 +19,6 @@ loop-credit-preserved c = running_more (λ x. x.grains) c.args.credits.now c.loo
 pub returns : goal.returns
 returns c =
     record {
-      sum-of-all = running_all (λ x. x.grains) c.args.credits.now c.loop-credit.credit-index c.loop-credit.sum c.loop-credit.invariant c.loop-credit-test.false;
-      still-fits = omega (arith, c.loop-credit.invariant, c.requires.fits);
+      sum_of_all = running_all (λ x. x.grains) c.args.credits.now c.loop-credit.credit-index c.loop-credit.sum c.loop-credit.invariant c.loop-credit-test.false;
+      still_fits = omega (arith, c.loop-credit.invariant, c.requires.fits);
     }

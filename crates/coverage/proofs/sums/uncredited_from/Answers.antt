@@ -5,13 +5,13 @@ use Rattle.coverage.proofs.Limits.{uncredited_limit}
 use Rattle.coverage.proofs.Running.{periods_more, periods_all}
 use Rattle.coverage.proofs.sums.uncredited_from.Goals as goal
 
-pub overflow-add-sum : goal.overflow-add-sum
-overflow-add-sum c =
+pub overflow_add-sum : goal.overflow_add-sum
+overflow_add-sum c =
     record {
       fits = omega (
         arith,
         periods_more c.args.position.now.debts.now c.loop-place.place c.loop-place-test.true (excess (position_of c.args.position.now) c.args.day),
-        c.excess-at-sum.ensures.once-a-period,
+        c.excess_at-sum.ensures.once_a_period,
         c.loop-place.invariant,
         uncredited_limit (position_of c.args.position.now) c.requires.admissible c.args.day,
       );
@@ -22,17 +22,17 @@ loop-place-preserved c =
     omega (
       arith,
       periods_more c.args.position.now.debts.now c.loop-place.place c.loop-place-test.true (excess (position_of c.args.position.now) c.args.day),
-      c.excess-at-sum.ensures.once-a-period,
+      c.excess_at-sum.ensures.once_a_period,
       c.loop-place.invariant,
     )
 
 pub returns : goal.returns
 returns c =
     record {
-      sum-over-the-periods = omega (
+      sum_over_the_periods = omega (
         arith,
         periods_all (excess (position_of c.args.position.now) c.args.day) c.args.position.now.debts.now c.loop-place.place c.loop-place-test.false,
         c.loop-place.invariant,
       );
-      still-fits = omega (arith, c.loop-place.invariant, uncredited_limit (position_of c.args.position.now) c.requires.admissible c.args.day);
+      still_fits = omega (arith, c.loop-place.invariant, uncredited_limit (position_of c.args.position.now) c.requires.admissible c.args.day);
     }

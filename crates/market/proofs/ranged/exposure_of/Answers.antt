@@ -11,7 +11,7 @@ returns g c =
     let h = exposure_in_range _ s c.args.vat.percent cell.figures.amounts (its_orders cell) c.args.vat.ranged (cell_within_limits cell) in
     let l = s.at_most_0 c.args.vat.percent cell.figures.amounts (its_orders cell) c.args.vat.ranged (cell_within_limits cell) in
     record {
-      is-the-exposure = omega (arith, ints, c.exposure.ensures.is-the-exposure);
-      is_in_range = omega (arith, ints, ap nat_abs c.exposure.ensures.is-the-exposure, h);
-      is-at-most-0 = omega (arith, ints, c.exposure.ensures.is-the-exposure, l);
+      is_the_exposure = omega (arith, ints, c.exposure.ensures.is_the_exposure);
+      is_in_range = omega (arith, ints, ap nat_abs c.exposure.ensures.is_the_exposure, h);
+      is_at_most_0 = omega (arith, ints, c.exposure.ensures.is_the_exposure, l);
     }

@@ -8,19 +8,19 @@ use Rattle.coverage.proofs.Limits.{dated}
 use Rattle.coverage.proofs.Meaning.{covered_exactly_from_zero, below_zero_none_covers, largest_further_debt, smallest_further_guarantee}
 use Rattle.coverage.proofs.position.Position.capacity.Goals as goal
 
-pub returns-then-is-admissible : goal.returns-then-is-admissible
-returns-then-is-admissible c =
+pub returns-then-is_admissible : goal.returns-then-is_admissible
+returns-then-is_admissible c =
     let p : Position = position_of c.args.self.now in
-    let fit : Admissible p = c.is-admissible.ensures.exactly-when-within-the-limits.0 c.if-is-admissible.true in
+    let fit : Admissible p = c.is_admissible.ensures.exactly_when_within_the_limits.0 c.if-is_admissible.true in
     let in_time : Dated p = dated p fit in
-    let fits : SFits w64 c.capacity-of.result = search rules in
-    let least = subst (SmallestOfTheDays p) (sym (to_z-of_z fits)) c.capacity-of.ensures.smallest-of-the-days in
+    let fits : SFits w64 c.capacity_of.result = search rules in
+    let least = subst (SmallestOfTheDays p) (sym (to_z-of_z fits)) c.capacity_of.ensures.smallest_of_the_days in
     record {
-      answered-exactly-within-the-limits = ((λ _. fit), (λ _. refl));
-      is-the-capacity = smallest_unique p _ (capacity p) least (capacity_is_smallest p fit.days_in_order);
-      is-the-smallest-of-the-days = least;
-      an-allocation-covers-exactly-from-zero = covered_exactly_from_zero p _ in_time least;
-      below-zero-no-allocation-covers = below_zero_none_covers p _ in_time least;
-      from-zero-it-is-the-largest-further-debt = largest_further_debt p _ in_time least;
-      below-zero-its-opposite-is-the-smallest-further-guarantee = smallest_further_guarantee p _ in_time least;
+      answered_exactly_within_the_limits = ((λ _. fit), (λ _. refl));
+      is_the_capacity = smallest_unique p _ (capacity p) least (capacity_is_smallest p fit.days_in_order);
+      is_the_smallest_of_the_days = least;
+      an_allocation_covers_exactly_from_zero = covered_exactly_from_zero p _ in_time least;
+      below_zero_no_allocation_covers = below_zero_none_covers p _ in_time least;
+      from_zero_it_is_the_largest_further_debt = largest_further_debt p _ in_time least;
+      below_zero_its_opposite_is_the_smallest_further_guarantee = smallest_further_guarantee p _ in_time least;
     }

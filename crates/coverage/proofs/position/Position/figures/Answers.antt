@@ -9,33 +9,33 @@ use Rattle.coverage.proofs.Periods.{however_listed}
 use Rattle.coverage.proofs.Same.{only_sums_matter}
 use Rattle.coverage.proofs.position.Position.figures.Goals as goal
 
-pub credited-in-all-requires : goal.credited-in-all-requires
-credited-in-all-requires c =
-    record { fits = omega (arith, credits_limit (position_of c.args.self.now) (c.is-admissible.ensures.exactly-when-within-the-limits.0 c.if-not-is-admissible.false)) }
+pub credited_in_all-requires : goal.credited_in_all-requires
+credited_in_all-requires c =
+    record { fits = omega (arith, credits_limit (position_of c.args.self.now) (c.is_admissible.ensures.exactly_when_within_the_limits.0 c.if-not-is_admissible.false)) }
 
-pub returns-then-not-is-admissible : goal.returns-then-not-is-admissible
-returns-then-not-is-admissible c =
+pub returns-then-not-is_admissible : goal.returns-then-not-is_admissible
+returns-then-not-is_admissible c =
     record {
-      answered-exactly-within-the-limits = search rules;
-      exposure-is-minus-debts-above-credit = tt;
-      credit-position-is-the-sum-of-all-credits = tt;
-      capacity-is-the-smallest-of-the-days = tt;
-      rows-matter-only-by-their-sums = only_sums_matter (position_of c.args.self.now);
-      periods-may-be-listed-in-any-way = however_listed (position_of c.args.self.now);
+      answered_exactly_within_the_limits = search rules;
+      exposure_is_minus_debts_above_credit = tt;
+      credit_position_is_the_sum_of_all_credits = tt;
+      capacity_is_the_smallest_of_the_days = tt;
+      rows_matter_only_by_their_sums = only_sums_matter (position_of c.args.self.now);
+      periods_may_be_listed_in_any_way = however_listed (position_of c.args.self.now);
     }
 
 pub returns : goal.returns
 unfolding credit_position
 returns c =
     let p : Position = position_of c.args.self.now in
-    let fit : Admissible p = c.is-admissible.ensures.exactly-when-within-the-limits.0 c.if-not-is-admissible.false in
-    let exposure-fits : SFits w64 c.exposure-of.result = search rules in
-    let capacity-fits : SFits w64 c.capacity-of.result = search rules in
+    let fit : Admissible p = c.is_admissible.ensures.exactly_when_within_the_limits.0 c.if-not-is_admissible.false in
+    let exposure-fits : SFits w64 c.exposure_of.result = search rules in
+    let capacity-fits : SFits w64 c.capacity_of.result = search rules in
     record {
-      answered-exactly-within-the-limits = ((λ _. fit), (λ _. refl));
-      exposure-is-minus-debts-above-credit = to_z-of_z exposure-fits ∙ c.exposure-of.ensures.minus-debts-above-credit;
-      credit-position-is-the-sum-of-all-credits = omega (arith, ints, c.credited-in-all.ensures.sum-of-all);
-      rows-matter-only-by-their-sums = only_sums_matter p;
-      periods-may-be-listed-in-any-way = however_listed p;
-      capacity-is-the-smallest-of-the-days = to_z-of_z capacity-fits ∙ smallest_unique p c.capacity-of.result (capacity p) c.capacity-of.ensures.smallest-of-the-days (capacity_is_smallest p fit.days_in_order);
+      answered_exactly_within_the_limits = ((λ _. fit), (λ _. refl));
+      exposure_is_minus_debts_above_credit = to_z-of_z exposure-fits ∙ c.exposure_of.ensures.minus_debts_above_credit;
+      credit_position_is_the_sum_of_all_credits = omega (arith, ints, c.credited_in_all.ensures.sum_of_all);
+      rows_matter_only_by_their_sums = only_sums_matter p;
+      periods_may_be_listed_in_any_way = however_listed p;
+      capacity_is_the_smallest_of_the_days = to_z-of_z capacity-fits ∙ smallest_unique p c.capacity_of.result (capacity p) c.capacity_of.ensures.smallest_of_the_days (capacity_is_smallest p fit.days_in_order);
     }

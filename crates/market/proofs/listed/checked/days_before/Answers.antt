@@ -16,6 +16,6 @@ loop-last-preserved c =
 pub returns : goal.returns
 returns c =
     record {
-      is-how-many = c.loop-last.invariant.0 ∙ ap (last_days_before c.args.day) (take_all c.loop-last.last-index c.args.days.now c.loop-last-test.false);
-      is-no-more-than-all = omega arith;
+      is_how_many = c.loop-last.invariant.0 ∙ ap (last_days_before c.args.day) (take_all c.loop-last.last-index c.args.days.now c.loop-last-test.false);
+      is_no_more_than_all = omega arith;
     }
