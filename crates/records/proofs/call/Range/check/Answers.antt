@@ -5,8 +5,8 @@ use Rattle.records.proofs.call.Range.check.Goals as goal
 
 pub returns-then-number-self : goal.returns-then-number-self
 unfolding outside
-returns-then-number-self c = record { fault-outside-the-range = grind (arith, nat_tests) }
+returns-then-number-self c = record { fault_outside_the_range = grind (arith, nat_tests) }
 
 pub returns : goal.returns
 unfolding outside
-returns c = record { fault-outside-the-range = grind (arith, nat_tests) }
+returns c = record { fault_outside_the_range = grind (arith, nat_tests) }

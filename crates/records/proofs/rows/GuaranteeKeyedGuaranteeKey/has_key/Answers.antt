@@ -5,8 +5,8 @@ use Rattle.records.proofs.rows.GuaranteeKeyedGuaranteeKey.has_key.Goals as goal
 
 pub returns-then-self-key : goal.returns-then-self-key
 unfolding is_guarantee
-returns-then-self-key c = record { tells-its-key = grind (arith, nat_tests) }
+returns-then-self-key c = record { tells_its_key = grind (arith, nat_tests) }
 
 pub returns-else-self-key : goal.returns-else-self-key
 unfolding is_guarantee
-returns-else-self-key c = record { tells-its-key = grind (arith, nat_tests) }
+returns-else-self-key c = record { tells_its_key = grind (arith, nat_tests) }

@@ -5,4 +5,4 @@ use Rattle.records.proofs.rows.ParticipantKeyedU64.has_key.Goals as goal
 
 pub returns : goal.returns
 unfolding is_participant
-returns c = record { tells-its-key = grind (arith, nat_tests) }
+returns c = record { tells_its_key = grind (arith, nat_tests) }
