@@ -5,8 +5,8 @@ use Rattle.wire.proofs.lines.fill_digits.Goals as goal
 pub loop-rest-init : goal.loop-rest-init
 loop-rest-init c = (left_start c.args.value c.args.part.now c.requires.as_long, omega arith)
 
-pub overflow-sub-at : goal.overflow-sub-at
-overflow-sub-at c = let h : c.loop-rest.rest < 2 ^ 64 = omega arith in let s = left_some _ _ _ _ h c.loop-rest.invariant.0 in omega arith
+pub overflow_sub-at : goal.overflow_sub-at
+overflow_sub-at c = let h : c.loop-rest.rest < 2 ^ 64 = omega arith in let s = left_some _ _ _ _ h c.loop-rest.invariant.0 in omega arith
 
 pub bounds-part-at : goal.bounds-part-at
 bounds-part-at c = let h : c.loop-rest.rest < 2 ^ 64 = omega arith in let s = left_some _ _ _ _ h c.loop-rest.invariant.0 in omega arith
@@ -17,7 +17,7 @@ loop-rest-preserved c =
     (left_more _ _ _ _ c.loop-rest-test.true h c.loop-rest.invariant.0, omega arith)
 
 pub returns : goal.returns
-returns c = record { is-the-number = left_last _ _ _ _ c.loop-rest-test.false c.loop-rest.invariant.0 }
+returns c = record { is_the_number = left_last _ _ _ _ c.loop-rest-test.false c.loop-rest.invariant.0 }
 
 pub bounds-part-0 : goal.bounds-part-0
 bounds-part-0 c = let h : c.loop-rest.rest < 2 ^ 64 = omega arith in let s = left_some _ _ _ _ h c.loop-rest.invariant.0 in omega arith

@@ -6,5 +6,5 @@ pub returns : goal.returns
 returns c =
     record {
       next_place = omega arith;
-      stands-there = then_overwritten c.args.buffer.now _ _ (c.args.letter ∷ []) (44 ∷ []) c.args.at _ (omega arith) c.put-byte-end.ensures.stands-there c.put-byte-end.ensures.next_place c.put-byte.ensures.stands-there;
+      stands_there = then_overwritten c.args.buffer.now _ _ (c.args.letter ∷ []) (44 ∷ []) c.args.at _ (omega arith) c.put_byte-end.ensures.stands_there c.put_byte-end.ensures.next_place c.put_byte.ensures.stands_there;
     }

@@ -4,22 +4,22 @@ use Rattle.std.proofs.lemmas.Bool.Decides.{nat_tests}
 use Rattle.wire.specs.Numbers.{last_day_of, hyphen}
 use Rattle.wire.proofs.Reading.{reads_last_days}
 use Rattle.wire.proofs.numbers.last_day.Goals as goal
-use Rattle.wire.proofs.numbers.last_day.Goals.{in-default-via-then-bytes-lt1, in-default-via-else-bytes-lt1+then-bytes-lt2+in-default·, in-default-via-else-bytes-lt1+else-bytes-lt2}
+use Rattle.wire.proofs.numbers.last_day.Goals.{in_default-via-then-bytes-lt1, in_default-via-else-bytes-lt1+then-bytes-lt2+in_default-1, in_default-via-else-bytes-lt1+else-bytes-lt2}
 
 pub returns-in-45 : goal.returns-in-45
 unfolding last_day_of
-returns-in-45 c = record { reads-the-form = grind (arith, nat_tests); reads-exactly-what-is-written = reads_last_days c.args.bytes.now }
+returns-in-45 c = record { reads_the_form = grind (arith, nat_tests); reads_exactly_what_is_written = reads_last_days c.args.bytes.now }
 
 pub returns-in-None : goal.returns-in-None
 unfolding last_day_of
 returns-in-None c =
     let t : (eqb (length c.args.bytes.now) 1 && eqb (get_or c.args.bytes.now 0 0) hyphen) ≡ false =
-    elim c.in-default.branch [ in-default-via-then-bytes-lt1 w ↦ grind (arith, nat_tests) | in-default-via-else-bytes-lt1+then-bytes-lt2+in-default· w ↦ grind (arith, nat_tests) | in-default-via-else-bytes-lt1+else-bytes-lt2 w ↦ grind (arith, nat_tests) ] in
-    record { reads-the-form = rw t (ap (option_map Some) c.in-None.ensures.reads-the-form); reads-exactly-what-is-written = reads_last_days c.args.bytes.now }
+    elim c.in_default.branch [ in_default-via-then-bytes-lt1 w ↦ grind (arith, nat_tests) | in_default-via-else-bytes-lt1+then-bytes-lt2+in_default-1 w ↦ grind (arith, nat_tests) | in_default-via-else-bytes-lt1+else-bytes-lt2 w ↦ grind (arith, nat_tests) ] in
+    record { reads_the_form = rw t (ap (option_map Some) c.in-None.ensures.reads_the_form); reads_exactly_what_is_written = reads_last_days c.args.bytes.now }
 
 pub returns-in-Some : goal.returns-in-Some
 unfolding last_day_of
 returns-in-Some c =
     let t : (eqb (length c.args.bytes.now) 1 && eqb (get_or c.args.bytes.now 0 0) hyphen) ≡ false =
-    elim c.in-default.branch [ in-default-via-then-bytes-lt1 w ↦ grind (arith, nat_tests) | in-default-via-else-bytes-lt1+then-bytes-lt2+in-default· w ↦ grind (arith, nat_tests) | in-default-via-else-bytes-lt1+else-bytes-lt2 w ↦ grind (arith, nat_tests) ] in
-    record { reads-the-form = rw t (ap (option_map Some) c.in-Some.ensures.reads-the-form); reads-exactly-what-is-written = reads_last_days c.args.bytes.now }
+    elim c.in_default.branch [ in_default-via-then-bytes-lt1 w ↦ grind (arith, nat_tests) | in_default-via-else-bytes-lt1+then-bytes-lt2+in_default-1 w ↦ grind (arith, nat_tests) | in_default-via-else-bytes-lt1+else-bytes-lt2 w ↦ grind (arith, nat_tests) ] in
+    record { reads_the_form = rw t (ap (option_map Some) c.in-Some.ensures.reads_the_form); reads_exactly_what_is_written = reads_last_days c.args.bytes.now }

@@ -6,12 +6,12 @@ use Rattle.wire.proofs.numbers.letter.Goals as goal
 
 pub returns-in-len1 : goal.returns-in-len1
 unfolding letter_of
-returns-in-len1 c = record { reads-the-form = grind (arith, nat_tests); reads-exactly-what-is-written = reads_letters c.args.bytes.now }
+returns-in-len1 c = record { reads_the_form = grind (arith, nat_tests); reads_exactly_what_is_written = reads_letters c.args.bytes.now }
 
-pub returns-in-default : goal.returns-in-default
+pub returns-in_default : goal.returns-in_default
 unfolding letter_of
-returns-in-default c = record { reads-the-form = grind (arith, nat_tests); reads-exactly-what-is-written = reads_letters c.args.bytes.now }
+returns-in_default c = record { reads_the_form = grind (arith, nat_tests); reads_exactly_what_is_written = reads_letters c.args.bytes.now }
 
-pub returns-in-default·2 : goal.returns-in-default·2
+pub returns-in_default-2 : goal.returns-in_default-2
 unfolding letter_of
-returns-in-default·2 c = record { reads-the-form = grind (arith, nat_tests); reads-exactly-what-is-written = reads_letters c.args.bytes.now }
+returns-in_default-2 c = record { reads_the_form = grind (arith, nat_tests); reads_exactly_what_is_written = reads_letters c.args.bytes.now }

@@ -7,42 +7,34 @@ use Rattle.std.proofs.lemmas.Int.{ints}
 use Rattle.book.proofs.Positions.{same_tables}
 use Rattle.book.proofs.tables.Book.open.Goals as goal
 
-pub invariant-of-result : goal.invariant-of-result
-invariant-of-result g c =
-    let p = c.in-ok-participants.ensures in
-    let q = c.in-ok-guarantees.ensures in (
-      omega arith,
-      (
-        omega arith,
-        (
-          omega arith,
-          (
-            omega arith,
-            (
-              checked_margin c.args.terms c.in-ok-check.ensures.fault-due-for-the-input,
-              (
-                omega arith,
-                (ap shares_in_range p.items ∙ shares_none, (ap amounts_in_range q.items ∙ amounts_none, tt)),
-              ),
-            ),
-          ),
-        ),
-      ),
-    )
+pub invariant_of-result : goal.invariant_of-result
+invariant_of-result g c =
+    let p = c.in_ok-participants.ensures in
+    let q = c.in_ok-guarantees.ensures in
+    record {
+      few_participants = omega arith;
+      participant_room = omega arith;
+      few_guarantees = omega arith;
+      guarantee_room = omega arith;
+      margin_in_range = checked_margin c.args.terms c.in_ok-check.ensures.fault_due_for_the_input;
+      since_first_day = omega arith;
+      shares = ap shares_in_range p.items ∙ shares_none;
+      amounts = ap amounts_in_range q.items ∙ amounts_none;
+    }
 
 pub price-requires : goal.price-requires
 price-requires g c =
     let e : to_z w64 (of_z w64 c.args.terms.reference) ≡ c.args.terms.reference = omega (arith, ints) in
-    record { in_range = rw e (checked_reference c.args.terms c.in-ok-check.ensures.fault-due-for-the-input) }
+    record { in_range = rw e (checked_reference c.args.terms c.in_ok-check.ensures.fault_due_for_the_input) }
 
 pub returns : goal.returns
 returns g c =
     let e : to_z w64 (of_z w64 c.args.terms.reference) ≡ c.args.terms.reference = omega (arith, ints) in
-    let none = none_due _ c.in-ok-check.ensures.fault-due-for-the-input in
+    let none = none_due _ c.in_ok-check.ensures.fault_due_for_the_input in
     record {
-      empty-on-its-terms-or-refused = (
+      empty_on_its_terms_or_refused = (
         none,
-        same_tables (opened c.publish.new.self c.args.calendar c.args.terms) c.in-ok-participants.ensures.items c.in-ok-guarantees.ensures.items,
-        record { price = c.price.result; of_the_terms = c.price.ensures.holds-the-cents ∙ e; replaced = c.publish.ensures.replaces-the-reference },
+        same_tables (opened c.publish.new.self c.args.calendar c.args.terms) c.in_ok-participants.ensures.items c.in_ok-guarantees.ensures.items,
+        record { price = c.price.result; of_the_terms = c.price.ensures.holds_the_cents ∙ e; replaced = c.publish.ensures.replaces_the_reference },
       );
     }

@@ -8,9 +8,9 @@ pub returns : goal.returns
 returns g c =
     let fits = is_participant c.args.participant in
     let rows = vec_items c.args.self.now.participants in
-    let at : c.position.result ≡ place fits rows = c.position.ensures.first-match ∙ ap (place fits) c.deref.ensures.value in
+    let at : c.position.result ≡ place fits rows = c.position.ensures.first_match ∙ ap (place fits) c.deref.ensures.value in
     record {
-      first-match = at;
+      first_match = at;
       within = search rules;
-      where-known = found_where_placed fits rows c.position.result at;
+      where_known = found_where_placed fits rows c.position.result at;
     }

@@ -11,6 +11,6 @@ returns g c =
     let s = state c.args.self.now in
     let who = c.args.participant in
     record {
-      answered-or-refused = performed (Query who) c.position.result s s c.in-ok-check.ensures.fault-due-for-the-input c.in-ok-known.ensures.fault-due-or-its-row.0 refl c.position.ensures.as-the-definition;
-      capacity-is-least-since-the-first-day = (capacity s who, ap (λ a. a.capacity) c.position.ensures.as-the-definition, capacity_is_least s who c.args.self.now.since_first_day);
+      answered_or_refused = performed (Query who) c.position.result s s c.in_ok-check.ensures.fault_due_for_the_input c.in_ok-known.ensures.fault_due_or_its_row.0 refl c.position.ensures.as_the_definition;
+      capacity_is_least_since_the_first_day = (capacity s who, ap (λ a. a.capacity) c.position.ensures.as_the_definition, capacity_is_least s who c.args.self.now.since_first_day);
     }

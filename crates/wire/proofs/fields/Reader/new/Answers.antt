@@ -5,4 +5,4 @@ use Rattle.wire.proofs.fields.Reader.new.Goals as goal
 
 pub returns : goal.returns
 unfolding remaining
-returns c = record { all-fields-remain = refl; stands-at-the-letter = refl; splits-in-one-way = one_split c.args.text.now }
+returns c = record { all_fields_remain = refl; stands_at_the_letter = refl; splits_in_one_way = one_split c.args.text.now }

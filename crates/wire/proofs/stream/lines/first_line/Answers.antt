@@ -4,8 +4,8 @@ use Rattle.wire.proofs.stream.lines.first_line.Goals as goal
 
 pub returns : goal.returns
 returns c = record {
-  splits-at-the-first-line-feed = (
-    around c.args.text.now c.line-feed-end.result c.if-end-text.false (c.line-feed-end.ensures.stands-there c.if-end-text.false),
-    unbroken_before c.args.text.now c.line-feed-end.result (omega arith) c.line-feed-end.ensures.none_before,
+  splits_at_the_first_line_feed = (
+    around c.args.text.now c.line_feed-end.result c.if-end-text.false (c.line_feed-end.ensures.stands_there c.if-end-text.false),
+    unbroken_before c.args.text.now c.line_feed-end.result (omega arith) c.line_feed-end.ensures.none_before,
   );
 }
