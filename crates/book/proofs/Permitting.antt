@@ -1,7 +1,6 @@
 -- The fault due for each state of the book that a call meets. Assumes nothing.
-use Rattle.std.proofs.Common.{◌≡◌, ℕ, ◌<◌, ◌≤◌, Bool, true, false, cond, not, leb, List, [], ◌∷◌, length, get_or, set, is_some, Some, None, Ok, Err, Option, sym, refl, ap, ◌∙◌, arith}
+use Rattle.std.proofs.Common.{◌≡◌, ℕ, ◌<◌, ◌≤◌, Bool, true, false, leb, List, [], ◌∷◌, length, get_or, set, is_some, Some, None, Ok, Err, Option, sym, ap, ◌∙◌, arith}
 use Rattle.std.proofs.lemmas.Bool.Decides.{nat_tests}
-use Rattle.records.specs.declared.fault.Fault.{Fault}
 use Rattle.records.specs.declared.fault.Fault.TheVariants.{UnknownParticipant, AlreadyAdmitted, UnknownGuarantee, NumberUsed, DayPast, TableFull}
 use Rattle.records.specs.declared.rows.Participant.{Participant}
 use Rattle.records.specs.Refusals.{cleared, due}

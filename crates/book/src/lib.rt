@@ -1,4 +1,5 @@
 //! The guarantee book of one market: its tables and its calls.
+#![tactic(auto)]
 
 mod fault;
 mod tables;

@@ -3,7 +3,7 @@ use Rattle.std.proofs.Common.{◌≡◌, ℕ, ◌-◌, ◌<◌, ◌≤◌, Bool,
 use Rattle.std.proofs.lemmas.Bool.{leb-true, le-leb}
 use Rattle.std.proofs.ByRecursion.{All-weaker, All-get_or}
 use Rattle.coverage.specs.Allocation.{Position, Coverable, ValidOnItsDay, valid, valid_up_to, amount_if, debt_at, credit_at, guarantee_at, no_debt, no_credit, no_guarantee}
-use Rattle.coverage.specs.Capacity.{owed, credited, guaranteed, excess, periods, uncredited, times}
+use Rattle.coverage.specs.Capacity.{guaranteed, excess, periods, uncredited, times}
 use Rattle.coverage.proofs.Totals.{total_same_each}
 use Rattle.coverage.proofs.Places.{sum_below, total_places}
 use Rattle.coverage.proofs.Periods.{periods_once}

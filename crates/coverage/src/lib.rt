@@ -1,5 +1,7 @@
 //! Which guarantee and which credit can meet which debt, and how much is left: allocations, the capacity, and what it means.
 //! Nothing here knows a price, a market rule or a table.
+#![tactic(auto)]
+
 mod figures;
 mod position;
 mod rows;

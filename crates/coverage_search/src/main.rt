@@ -1,4 +1,6 @@
 //! Compares the capacity with an exhaustive search for an allocation, on every position of two guarantees, a credit and two debts of small amounts.
+#![tactic(auto)]
+
 use coverage::{Credit, Debt, Guarantee, Position};
 use std::io;
 

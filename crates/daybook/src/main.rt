@@ -1,4 +1,5 @@
 //! The program daybook: lines from standard input, an answer line for each to standard output.
+#![tactic(auto)]
 
 mod day;
 mod session;

@@ -1,8 +1,7 @@
 -- How a line is shown to be handled by the fault due. Assumes nothing.
-use Rattle.std.proofs.Common.{◌≡◌, ℕ, ◌+◌, ◌<◌, ◌≤◌, Bool, true, false, cond, ltb, List, [], ◌∷◌, ◌++◌, length, drop, Some, None, Ok, Err, Option, Result, sym, refl, ap, ◌∙◌, subst, arith, length-append}
+use Rattle.std.proofs.Common.{◌≡◌, ℕ, ◌+◌, ◌<◌, ◌≤◌, Bool, true, false, ltb, List, [], ◌∷◌, ◌++◌, length, drop, Some, None, Err, Option, Result, sym, refl, ap, ◌∙◌, subst, arith, length-append}
 use Rattle.std.proofs.lemmas.Bool.Decides.{nat_tests}
 use Rattle.records.specs.declared.answer.Answer.{Answer}
-use Rattle.records.specs.declared.call.Call.TheVariants.{Admit, Post, Return, Query}
 use Rattle.records.specs.Refusals.{◌when◌, due, Smallest}
 use Rattle.records.proofs.Refusing.{due_first, due_second, due_smallest, rises}
 use Rattle.wire.specs.Lines.{fronted}

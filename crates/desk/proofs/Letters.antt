@@ -1,7 +1,6 @@
 -- A line by its letter and the text after it. Assumes nothing.
-use Rattle.std.proofs.Common.{◌≡◌, ℕ, ◌-◌, ◌<◌, Bool, true, false, not, List, [], ◌∷◌, length, get_or, take, drop, Some, None, Ok, Err, Result, sym, refl, ap, ◌∙◌, subst, arith}
+use Rattle.std.proofs.Common.{◌≡◌, ℕ, ◌-◌, ◌<◌, true, List, [], ◌∷◌, length, get_or, take, drop, Some, Ok, Err, Result, ap, ◌∙◌, subst, arith}
 use Rattle.std.proofs.lemmas.Slice.{between_to_end}
-use Rattle.wire.specs.Fields.{fields}
 use Rattle.desk.specs.declared.command.Command.{Command}
 use Rattle.desk.specs.declared.fault.LineFault.{LineFault}
 use Rattle.desk.specs.Commands.{Kind, kind_of, led, Reads, Takes}

@@ -1,5 +1,5 @@
 -- A book opened by a line follows the market named. Assumes nothing.
-use Rattle.std.proofs.Common.{◌≡◌, false, [], ◌∷◌, ◌++◌, is_some, Some, None, Ok, Option, sym, refl, ap, ◌∙◌, subst, inl}
+use Rattle.std.proofs.Common.{◌≡◌, false, [], ◌∷◌, is_some, Some, None, Ok, Option, sym, refl, ap, ◌∙◌, subst, inl}
 use Rattle.std.specs.Option.{option_map}
 use Rattle.market.specs.declared.any.Market.{Market}
 use Rattle.market.specs.declared.any.Market.TheVariants as market
@@ -8,11 +8,10 @@ use Rattle.market.specs.declared.weeks.Weeks.{Weeks}
 use Rattle.market.specs.Rules.{any}
 use Rattle.records.specs.declared.call.Terms.{Terms}
 use Rattle.records.specs.Refusals.{◌when◌, due}
-use Rattle.records.specs.State.{opened}
 use Rattle.records.specs.Calls.{terms_input}
 use Rattle.records.proofs.Refusing.{due_second}
 use Rattle.book.specs.declared.tables.Book as tables
-use Rattle.book.specs.Opening.{Opens, Published}
+use Rattle.book.specs.Opening.{Opens}
 use Rattle.book.specs.View.{state}
 use Rattle.desk.specs.declared.command.Command.TheVariants.{Open}
 use Rattle.desk.specs.declared.command.MarketName.{MarketName}

@@ -1,5 +1,5 @@
 -- What a line does: all that it can be refused for, what it does to the book, and what is written. Assumes nothing.
-use Rattle.std.specs.Prelude.{◌≡◌, ℕ, ◌<◌, ◌≤◌, Bool, true, false, cond, ltb, ◌⊎◌, List, [], ◌∷◌, ◌++◌, map, length, pos, is_some, Some, None, Ok, Err, Option, Result, nat_lt}
+use Rattle.std.specs.Prelude.{◌≡◌, ℕ, true, cond, ltb, ◌⊎◌, List, [], ◌∷◌, ◌++◌, map, length, pos, is_some, Some, None, Ok, Err, Option, Result, nat_lt}
 use Rattle.std.specs.Option.{option_map}
 use Rattle.market.specs.declared.any.Market.{Market}
 use Rattle.market.specs.declared.weeks.Weeks.{Weeks}

@@ -1,4 +1,5 @@
 //! The line call: a command line in, an answer or a refusal line out.
+#![tactic(auto)]
 
 mod command;
 mod fault;

@@ -1,4 +1,5 @@
 //! Examples of the book and of the line call, each run as a test.
+#![tactic(auto)]
 
 #[cfg(test)]
 mod tests {
@@ -84,7 +85,7 @@ mod tests {
             Ok(length) => assert_eq!(rt; length, 11),
             Err(_) => return Err(Fail::new("refused")),
         }
-        assert!(rt; &buffer[0..11] == b"12,0,0,0,0\n");
+        assert!(rt; &buffer[0..11] == b"12,0,0,0,0\n".as_slice());
         assert!(rt; buffer[11] == 7 && buffer[95] == 7);
         Ok(())
     }

@@ -1,5 +1,5 @@
 -- No outcome leaves less than the losing orders filled whole at their limits, and that one is possible.
-use Rattle.std.specs.Prelude.{◌≡◌, ℕ, zero, suc, ◌+◌, ◌*◌, ◌≤◌, Bool, true, false, cond, ◌&&◌, List, [], ◌∷◌, map, length, replicate, ℤ, pos, negsuc, ◌+ℤ◌, ◌-ℤ◌, ◌*ℤ◌, neg_ℤ, ◌≤ℤ◌, refl}
+use Rattle.std.specs.Prelude.{◌≡◌, ℕ, zero, suc, ◌*◌, ◌≤◌, Bool, true, false, cond, ◌&&◌, List, [], ◌∷◌, map, length, replicate, ℤ, pos, negsuc, ◌+ℤ◌, ◌-ℤ◌, ◌*ℤ◌, neg_ℤ, ◌≤ℤ◌, refl}
 use Rattle.std.proofs.Common.{sym, ap, ap₂, ◌∙◌, arith, mul-le-mul, mul_comm, mul-zero, suc-mul, le_refl}
 use borrow.Author.Differences.{ints, up, down}
 use Rattle.std.specs.Int.Signed.{≤ℤ_refl}
@@ -12,7 +12,7 @@ use Rattle.market.specs.declared.orders.Order.{Order}
 use Rattle.market.specs.declared.figures.Amounts.{Amounts}
 use Rattle.market.specs.Units.{PriceRange}
 use Rattle.market.specs.Outcomes.{Fill, value, NoWorse, Fills, Outcome, Along, Possible, traded, after}
-use Rattle.market.specs.Limits.{loses, every, at_limit, at_limits}
+use Rattle.market.specs.Limits.{loses, at_limit, at_limits}
 use Rattle.market.specs.Rules.{repriced}
 use Rattle.market.specs.Products.{times_zero, times_suc, times_add, times_both}
 

@@ -1,4 +1,6 @@
 //! Market rules and settlement calendars of the electricity exchange.
+#![tactic(auto)]
+
 mod any;
 mod calendar;
 mod figures;

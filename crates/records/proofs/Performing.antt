@@ -1,5 +1,5 @@
 -- How a call is shown to do what it promises. Assumes nothing.
-use Rattle.std.proofs.Common.{◌≡◌, true, List, ◌++◌, Some, None, Ok, Err, Option, Result, sym, refl, ap, ◌∙◌}
+use Rattle.std.proofs.Common.{◌≡◌, true, Some, None, Ok, Err, refl, ap, ◌∙◌}
 use Rattle.records.specs.declared.answer.Answer.{Answer}
 use Rattle.records.specs.declared.call.Call.{Call}
 use Rattle.records.specs.declared.call.Call.TheVariants.{Admit, Post, Return, Query}

@@ -1,5 +1,5 @@
 -- What each call refuses, what it does to the book, and what it answers. Assumes nothing.
-use Rattle.std.specs.Prelude.{◌≡◌, ℕ, Bool, true, false, not, List, [], ◌∷◌, ◌++◌, length, ℤ, is_some, Some, None, Ok, Err, Option, Result, nat_le, nat_lt, unsigned_abs}
+use Rattle.std.specs.Prelude.{◌≡◌, ℕ, Bool, false, not, List, [], ◌∷◌, ◌++◌, length, ℤ, is_some, Some, None, Ok, Err, Option, Result, nat_le, nat_lt, unsigned_abs}
 use Rattle.records.specs.declared.answer.Answer.{Answer}
 use Rattle.records.specs.declared.call.Call.{Call}
 use Rattle.records.specs.declared.call.Call.TheVariants.{Admit, Post, Return, Query}
@@ -7,7 +7,6 @@ use Rattle.records.specs.declared.call.Terms.{Terms}
 use Rattle.records.specs.declared.fault.Fault.{Fault}
 use Rattle.records.specs.declared.fault.Fault.TheVariants.{NumberOutOfRange, PriceOutOfRange, RateOutOfRange, AmountOutOfRange, DayOutOfRange, UnknownParticipant, AlreadyAdmitted, UnknownGuarantee, NumberUsed, DayPast, TableFull}
 use Rattle.records.specs.declared.rows.Participant.{Participant}
-use Rattle.records.specs.declared.rows.Guarantee.{Guarantee}
 use Rattle.records.specs.Refusals.{Cause, ◌when◌, rank, due, outside, Smallest}
 use Rattle.records.specs.Tables.{find, change, remove}
 use Rattle.records.specs.Rows.{is_participant, is_guarantee, valid}

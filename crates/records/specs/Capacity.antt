@@ -1,5 +1,5 @@
 -- A participant's position as a call answers it. Assumes nothing.
-use Rattle.std.specs.Prelude.{◌≡◌, ℕ, zero, suc, ◌+◌, ◌-◌, ◌*◌, ◌≤◌, min, Bool, true, false, cond, ◌&&◌, List, [], ◌∷◌, ℤ, pos, Some, None, Option, ◌==◌}
+use Rattle.std.specs.Prelude.{◌≡◌, ℕ, zero, suc, ◌+◌, ◌-◌, ◌≤◌, min, cond, ◌&&◌, List, [], ◌∷◌, pos, Some, None, Option, ◌==◌}
 use Rattle.records.specs.declared.answer.Answer.{Answer}
 use Rattle.records.specs.declared.answer.Status.TheVariants.{New}
 use Rattle.records.specs.declared.rows.Participant.{Participant}

@@ -1,5 +1,5 @@
 -- What the rows of the tables mean. Assumes nothing.
-use Rattle.std.specs.Prelude.{ℕ, ◌-◌, ◌*◌, Bool, true, false, ◌&&◌, List, Some, None, Option, ◌==◌, nat_le}
+use Rattle.std.specs.Prelude.{ℕ, ◌-◌, ◌*◌, Bool, true, ◌&&◌, List, Some, None, Option, ◌==◌, nat_le}
 use Rattle.records.specs.declared.rows.Participant.{Participant}
 use Rattle.records.specs.declared.rows.Guarantee.{Guarantee}
 use Rattle.records.specs.Tables.{every}

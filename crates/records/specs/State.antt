@@ -1,5 +1,5 @@
 -- What a book holds: its terms and its tables. Assumes nothing.
-use Rattle.std.specs.Prelude.{ℕ, List, [], ℤ}
+use Rattle.std.specs.Prelude.{ℕ, List, []}
 use Rattle.records.specs.declared.call.Terms.{Terms}
 use Rattle.records.specs.declared.rows.Participant.{Participant}
 use Rattle.records.specs.declared.rows.Guarantee.{Guarantee}

@@ -1,5 +1,5 @@
 -- Tables as lists of rows: the first row that passes a test is found, changed or removed. Assumes nothing.
-use Rattle.std.specs.Prelude.{ℕ, ◌+◌, Bool, true, false, cond, ◌&&◌, List, [], ◌∷◌, Some, None, Option}
+use Rattle.std.specs.Prelude.{ℕ, ◌+◌, Bool, true, cond, ◌&&◌, List, [], ◌∷◌, Some, None, Option}
 
 module _ {X : Type 0} (fits : X → Bool) where
   -- the first row that fits

@@ -1,4 +1,5 @@
 //! The words of the guarantee book: its rows, its calls, its answers and its refusals.
+#![tactic(auto)]
 
 mod answer;
 mod call;

@@ -1,4 +1,6 @@
 //! The bytes of command lines and of answer lines: fields of a line, numbers in fields, and the lines that answer.
+#![tactic(auto)]
+
 mod fields;
 mod lines;
 mod numbers;
@@ -21,11 +23,11 @@ mod tests {
     fn fields_in_order(rt: HostRuntime) -> Result<(), Fail> {
         let mut reader = Reader::new(b",a,,b");
         let first = reader.next_field().ok_or("no first field")?;
-        assert!(rt; first.place == 2 && first.bytes == b"a");
+        assert!(rt; first.place == 2 && first.bytes == b"a".as_slice());
         let second = reader.next_field().ok_or("no second field")?;
         assert!(rt; second.place == 3 && second.bytes.is_empty());
         let third = reader.next_field().ok_or("no third field")?;
-        assert!(rt; third.place == 4 && third.bytes == b"b");
+        assert!(rt; third.place == 4 && third.bytes == b"b".as_slice());
         assert!(rt; reader.next_field().is_none());
         Ok(())
     }
@@ -81,7 +83,9 @@ mod tests {
         let mut buffer = [b'x'; 96];
         let length = write_answer(&mut buffer, &answer).ok_or("too short")?;
         assert_eq!(rt; length, 28);
-        assert!(rt; &buffer[0..28] == b"4,0,-4500000000,0,350000000\n" && buffer[28] == b'x');
+        assert!(rt;
+            &buffer[0..28] == b"4,0,-4500000000,0,350000000\n".as_slice() && buffer[28] == b'x'
+        );
         let mut short = [b'x'; 95];
         assert_eq!(rt; write_answer(&mut short, &answer), None);
         assert!(rt; short[0] == b'x');
@@ -101,7 +105,7 @@ mod tests {
         let mut buffer = [b'x'; 96];
         let length = write_refusal(&mut buffer, &refusal).ok_or("too short")?;
         assert_eq!(rt; length, 10);
-        assert!(rt; &buffer[0..10] == b"5,218,B,0\n" && buffer[10] == b'x');
+        assert!(rt; &buffer[0..10] == b"5,218,B,0\n".as_slice() && buffer[10] == b'x');
         Ok(())
     }
 

@@ -1,4 +1,5 @@
 //! The worked figures of the rules, all together, from the definitions.
+#![tactic(auto)]
 
 ghost use Rattle.std.specs.Prelude.{◌≡◌, [], ◌∷◌, ℤ, pos, neg_ℤ, ◌*ℤ◌};
 ghost use Rattle.market.specs.declared.orders.Side.TheVariants.{Buy};

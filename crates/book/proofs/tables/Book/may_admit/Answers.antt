@@ -1,5 +1,4 @@
-use Rattle.std.proofs.Common.{◌≡◌, ◌<◌, ◌≤◌, true, false, length, vec_items, sym, ◌∙◌, arith}
-use Rattle.records.specs.Calls.{known}
+use Rattle.std.proofs.Common.{sym, ◌∙◌, arith}
 use Rattle.book.specs.View.{state}
 use Rattle.book.proofs.Permitting.{already, participants_full, admissible}
 use Rattle.book.proofs.tables.Book.may_admit.Goals as goal

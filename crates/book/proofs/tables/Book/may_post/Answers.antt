@@ -1,6 +1,5 @@
-use Rattle.std.proofs.Common.{◌≡◌, Some, vec_items, sym, arith}
+use Rattle.std.proofs.Common.{vec_items, sym, arith}
 use Rattle.records.specs.Rows.{is_participant}
-use Rattle.records.specs.Tables.{find}
 use Rattle.book.specs.View.{state}
 use Rattle.book.proofs.Permitting.{row_found, post_unknown, number_used, too_late, guarantees_full, postable}
 use Rattle.book.proofs.tables.Book.may_post.Goals as goal

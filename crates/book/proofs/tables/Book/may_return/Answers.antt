@@ -1,4 +1,4 @@
-use Rattle.std.proofs.Common.{◌≡◌, Bool, true, false, Some, None, vec_items, sym, ap, ◌∙◌, arith}
+use Rattle.std.proofs.Common.{◌≡◌, Some, None, vec_items, sym, ap, ◌∙◌, arith}
 use Rattle.records.specs.Rows.{is_guarantee}
 use Rattle.records.specs.Tables.{place}
 use Rattle.book.specs.View.{state}

@@ -1,4 +1,4 @@
-use Rattle.std.proofs.Common.{◌≡◌, ap, ◌∙◌, arith, w64, to_z, of_z, rules}
+use Rattle.std.proofs.Common.{◌≡◌, ap, ◌∙◌, arith, w64, to_z, of_z}
 use Rattle.records.specs.Rows.{shares_in_range, amounts_in_range}
 use Rattle.records.specs.State.{opened}
 use Rattle.records.proofs.Ranges.{checked_margin, checked_reference, shares_none, amounts_none}

@@ -1,4 +1,4 @@
-use Rattle.std.proofs.Common.{◌≡◌, vec_items, ap, ◌∙◌, arith, rules}
+use Rattle.std.proofs.Common.{◌≡◌, vec_items, ap, ◌∙◌, rules}
 use Rattle.records.specs.Rows.{is_participant}
 use Rattle.records.specs.Tables.{place}
 use Rattle.book.proofs.Permitting.{found_where_placed}

@@ -1,4 +1,4 @@
-use Rattle.std.proofs.Common.{refl, ap, ◌∙◌}
+use Rattle.std.proofs.Common.{refl, ap}
 use Rattle.records.specs.declared.call.Call.TheVariants.{Query}
 use Rattle.records.specs.Capacity.{capacity}
 use Rattle.records.proofs.Capacities.{capacity_is_least}

@@ -1,4 +1,4 @@
-use Rattle.std.proofs.Common.{length, sym, refl, ap, ◌∙◌, subst, arith, rules}
+use Rattle.std.proofs.Common.{length, sym, refl, ap, arith, rules}
 use Rattle.desk.specs.Lines.{book_of, text, told}
 use Rattle.desk.proofs.Handling.{answered_short, answered_long, smallest_due, lies_within}
 use Rattle.desk.proofs.session.Desk.line.Goals as goal

@@ -1,6 +1,5 @@
-use Rattle.std.proofs.Common.{◌≤◌, refl, arith, rules}
+use Rattle.std.proofs.Common.{arith}
 use Rattle.std.proofs.lemmas.Bool.Decides.{nat_tests}
-use Rattle.records.specs.Rows.{worth}
 use Rattle.records.proofs.Ranges.{worth_bound}
 use Rattle.book.proofs.tables.position.Valuation.worth.Goals as goal
 

@@ -1,4 +1,4 @@
-use Rattle.std.proofs.Common.{None, ap, arith}
+use Rattle.std.proofs.Common.{None, arith}
 use Rattle.std.proofs.lemmas.List.{at_drop_more, at_drop_all}
 use Rattle.records.specs.Capacity.{guaranteed}
 use Rattle.records.proofs.Ranges.{amount_at}
