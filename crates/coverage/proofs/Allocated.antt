@@ -1,7 +1,7 @@
 -- The theorem for amounts that are functions of the place: an allocation exists exactly when, at each debt's day, the valid guarantees
 -- reach what the debts of that day or later exceed the credits by.
 use Rattle.std.proofs.Common.{◌≡◌, ℕ, zero, suc, ◌+◌, ◌-◌, ◌*◌, ◌<◌, ◌≤◌, Bool, true, false, ◌&&◌, eqb, leb, List, [], ◌∷◌, sym, ap, ◌∙◌, inl, inr, arith}
-use Rattle.std.specs.List.{AllByRecursion as All}
+use Rattle.std.specs.List.{AllByRecursion}
 use Rattle.std.proofs.lemmas.Bool.{eq-eqb, ne_eqb, eqb-true, cases_Bool, cases_eq, cases_lt, leb-true, le-leb, lt-leb}
 use Rattle.std.proofs.ByRecursion.{All-weaker}
 use Rattle.coverage.specs.Allocation.{Row, total, amount_if, taken, given}
@@ -50,8 +50,8 @@ InPeriod T r = (r.source < T.credits) × (r.debt < T.debts) × (T.earned r.sourc
 pub record Allocated (T : Terms) (a g c : ℕ → ℕ) : Type 0 where
   pub gs : List Row
   pub cs : List Row
-  pub in_time : All (InTime T) gs
-  pub in_period : All (InPeriod T) cs
+  pub in_time : AllByRecursion (InTime T) gs
+  pub in_period : AllByRecursion (InPeriod T) cs
   pub gs_once : (i : ℕ) → i < T.guarantees → taken gs i ≤ g i
   pub cs_once : (k : ℕ) → k < T.credits → taken cs k ≤ c k
   pub in_full : (j : ℕ) → j < T.debts → given gs j + given cs j ≡ a j

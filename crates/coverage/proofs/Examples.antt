@@ -1,6 +1,6 @@
 -- The two worked figures.
 use Rattle.std.proofs.Common.{◌≡◌, ℕ, zero, suc, ◌+◌, ◌<◌, ◌≤◌, T, eqb, List, [], ◌∷◌, ℤ, is_some, IfSome, Some, None, Decides, Option, refl, ap, ◌∙◌, arith}
-use Rattle.std.specs.List.{AllByRecursion as All}
+use Rattle.std.specs.List.{AllByRecursion}
 use Rattle.std.proofs.lemmas.Bool.{false≢true}
 use Rattle.coverage.specs.Admission.{Admissible}
 use Rattle.coverage.specs.Allocation.{Position, Row, Allocation, Covers, ValidOnItsDay, OfItsPeriod, valid, amount_if, given, taken, debt_at, credit_at, guarantee_at}
@@ -67,7 +67,7 @@ no_guarantee_row zero (suc zero) n ls ld h = absurd h
 no_guarantee_row zero (suc (suc d)) n ls ld h = absurd (omega arith)
 no_guarantee_row (suc s) d n ls ld h = absurd (omega arith)
 
-no_guarantee_late : (rows : List Row) → All (ValidOnItsDay one_credit_two_debts) rows → given rows 1 ≡ 0
+no_guarantee_late : (rows : List Row) → AllByRecursion (ValidOnItsDay one_credit_two_debts) rows → given rows 1 ≡ 0
 no_guarantee_late [] h = refl
 no_guarantee_late (r ∷ rows) h = omega (arith, no_guarantee_row r.source r.debt r.grains h.0.0 h.0.1 h.0.2, no_guarantee_late rows h.1)
 
@@ -78,7 +78,7 @@ credit_row zero (suc zero) n ls ld = omega arith
 credit_row zero (suc (suc d)) n ls ld = absurd (omega arith)
 credit_row (suc s) d n ls ld = absurd (omega arith)
 
-credit_to_both : (rows : List Row) → All (OfItsPeriod one_credit_two_debts) rows → given rows 0 + given rows 1 ≤ taken rows 0
+credit_to_both : (rows : List Row) → AllByRecursion (OfItsPeriod one_credit_two_debts) rows → given rows 0 + given rows 1 ≤ taken rows 0
 credit_to_both [] h = omega arith
 credit_to_both (r ∷ rows) h = omega (arith, credit_row r.source r.debt r.grains h.0.0 h.0.1, credit_to_both rows h.1)
 

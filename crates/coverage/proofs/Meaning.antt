@@ -2,7 +2,7 @@
 use Rattle.std.proofs.Common.{◌≡◌, ℕ, suc, ◌+◌, ◌<◌, ◌≤◌, false, ◌&&◌, eqb, leb, ◌↔◌, List, [], ◌∷◌, ℤ, pos, neg_ℤ, ◌≤ℤ◌, refl, ap, ◌∙◌, ap₂, arith}
 use borrow.Author.Differences.{ints}
 use lib.Signed.{clash_ℤ}
-use Rattle.std.specs.List.{AllZip, AllByRecursion as All}
+use Rattle.std.specs.List.{AllZip, AllByRecursion}
 use Rattle.std.proofs.lemmas.Bool.{le-leb, ne_eqb, eq-eqb, cond-false, or_from}
 use Rattle.std.proofs.ByRecursion.{All-weaker, All-get_or}
 use Rattle.coverage.specs.declared.rows.Debt.{Debt}
@@ -49,16 +49,16 @@ smallest_further_guarantee p c dated least n e =
 -- A further debt of today in a period of its own lowers the capacity of every day by its amount.
 
 -- where no row is of a period, there is no debt and no credit in it
-no_debt_in : (q : ℕ) (xs : List Debt) → All (λ x. x.period ≡ q → ⊥) xs → owes_in xs q ≡ false
+no_debt_in : (q : ℕ) (xs : List Debt) → AllByRecursion (λ x. x.period ≡ q → ⊥) xs → owes_in xs q ≡ false
 no_debt_in q [] h = refl
 no_debt_in q (x ∷ xs) h = or_from (eqb x.period q) (owes_in xs q) (ne_eqb x.period q h.0) (no_debt_in q xs h.1)
 
-no_credit_in : (q : ℕ) (cs : List Credit) → All (λ c. c.period ≡ q → ⊥) cs → credited cs q ≡ 0
+no_credit_in : (q : ℕ) (cs : List Credit) → AllByRecursion (λ c. c.period ≡ q → ⊥) cs → credited cs q ≡ 0
 no_credit_in q [] h = refl
 no_credit_in q (c ∷ cs) h = omega (arith, no_credit_in q cs h.1, ap (λ t. amount_if t c.grains) (ne_eqb c.period q h.0))
 
 -- a period that stands nowhere in a list of periods differs from each of them
-differ : (q : ℕ) (qs : List ℕ) → times q qs ≡ 0 → All (λ r. q ≡ r → ⊥) qs
+differ : (q : ℕ) (qs : List ℕ) → times q qs ≡ 0 → AllByRecursion (λ r. q ≡ r → ⊥) qs
 differ q [] h = tt
 differ q (r ∷ qs) h = ((λ e. absurd (omega (arith, h, ap (λ t. amount_if t 1) (eq-eqb q r e)))), differ q qs (omega (arith, h)))
 
@@ -105,7 +105,7 @@ module _ (p : Position) (q : ℕ) (unused : UnusedPeriod p q) (n : ℕ) where
       still_dated = record { in_order = dated.in_order; each_debt = ((dated.in_order, omega arith), dated.each_debt) }
 
 -- there is a period of its own: one past the sum of all
-past_all : {X : Type 0} (period : X → ℕ) (xs : List X) (q : ℕ) → total period xs < q → All (λ x. period x ≡ q → ⊥) xs
+past_all : {X : Type 0} (period : X → ℕ) (xs : List X) (q : ℕ) → total period xs < q → AllByRecursion (λ x. period x ≡ q → ⊥) xs
 past_all period [] q h = tt
 past_all period (x ∷ xs) q h = ((λ e. absurd (omega arith)), past_all period xs q (omega arith))
 

@@ -1,6 +1,6 @@
 -- Sums over the places below n, for amounts that are a function of the place.
 use Rattle.std.proofs.Common.{◌≡◌, ℕ, zero, suc, ◌+◌, ◌-◌, ◌<◌, ◌≤◌, Bool, eqb, ◌⊎◌, List, [], ◌∷◌, length, get_or, refl, ap, ◌∙◌, inl, inr, arith}
-use Rattle.std.specs.List.{AllByRecursion as All}
+use Rattle.std.specs.List.{AllByRecursion}
 use Rattle.std.proofs.lemmas.Bool.{eq-eqb, ne_eqb, cases_eq, cases_lt}
 use Rattle.coverage.specs.Allocation.{total, amount_if, Row}
 use Rattle.coverage.proofs.Totals.{if_zero, if_add, if_swap}
@@ -94,7 +94,7 @@ one_less_sum n w f j l h =
         ∙ ap (λ x. amount_if (w k) (one_less f j k) + x) (if_swap (w k) (eqb j k) 1)
 
 -- what rows hold at the places that pass a test is what the rows hold whose place passes
-pub rows_by_place : (n : ℕ) (w : ℕ → Bool) (place : Row → ℕ) (rows : List Row) → All (λ r. place r < n) rows →
+pub rows_by_place : (n : ℕ) (w : ℕ → Bool) (place : Row → ℕ) (rows : List Row) → AllByRecursion (λ r. place r < n) rows →
     sum_below n (λ k. amount_if (w k) (total (λ r. amount_if (eqb (place r) k) r.grains) rows)) ≡ total (λ r. amount_if (w (place r)) r.grains) rows
 rows_by_place n w place [] h = below_none n (λ k. amount_if (w k) 0) (λ k _. if_zero (w k))
 rows_by_place n w place (r ∷ rows) h =

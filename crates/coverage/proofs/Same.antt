@@ -1,7 +1,7 @@
 -- The figures follow from the sums by day and period.
 use Rattle.std.proofs.Common.{◌≡◌, ℕ, zero, suc, ◌+◌, ◌-◌, ◌<◌, eqb, List, [], ◌∷◌, ◌++◌, ℤ, pos, ◌-ℤ◌, neg_ℤ, sym, refl, ap, ◌∙◌, ap₂, arith}
 use Rattle.std.specs.Int.{int_min}
-use Rattle.std.specs.List.{AllByRecursion as All}
+use Rattle.std.specs.List.{AllByRecursion}
 use Rattle.coverage.specs.declared.rows.Debt.{Debt}
 use Rattle.coverage.specs.declared.rows.Credit.{Credit}
 use Rattle.coverage.specs.Allocation.{Position, total, amount_if}
@@ -12,11 +12,11 @@ use Rattle.coverage.proofs.Places.{sum_below, below_same, below_add, below_none,
 use Rattle.coverage.proofs.Periods.{periods_once, however_listed}
 
 -- the periods of two lists of debts serve for each of them
-front_part : (P : Debt → Type 0) (xs ys : List Debt) → All P (xs ++ ys) → All P xs
+front_part : (P : Debt → Type 0) (xs ys : List Debt) → AllByRecursion P (xs ++ ys) → AllByRecursion P xs
 front_part P [] ys h = tt
 front_part P (x ∷ xs) ys h = (h.0, front_part P xs ys h.1)
 
-back_part : (P : Debt → Type 0) (xs ys : List Debt) → All P (xs ++ ys) → All P ys
+back_part : (P : Debt → Type 0) (xs ys : List Debt) → AllByRecursion P (xs ++ ys) → AllByRecursion P ys
 back_part P [] ys h = h
 back_part P (x ∷ xs) ys h = back_part P xs ys h.1
 
@@ -33,7 +33,7 @@ same_uncredited p q same d =
     once = periods_once (p.debts ++ q.debts)
 
 -- all credits are the credits of all periods
-credits_by_period : (n : ℕ) (cs : List Credit) → All (λ c. c.period < n) cs → total (λ c. c.grains) cs ≡ sum_below n (credited cs)
+credits_by_period : (n : ℕ) (cs : List Credit) → AllByRecursion (λ c. c.period < n) cs → total (λ c. c.grains) cs ≡ sum_below n (credited cs)
 credits_by_period n [] h = sym (below_none n (λ _. 0) (λ _ _. refl))
 credits_by_period n (c ∷ cs) h =
     omega (
@@ -43,7 +43,7 @@ credits_by_period n (c ∷ cs) h =
       below_at n (λ _. c.grains) c.period h.0,
     )
 
-below_all : (cs : List Credit) (n : ℕ) → total (λ c. c.period) cs < n → All (λ c. c.period < n) cs
+below_all : (cs : List Credit) (n : ℕ) → total (λ c. c.period) cs < n → AllByRecursion (λ c. c.period < n) cs
 below_all [] n h = tt
 below_all (c ∷ cs) n h = (omega arith, below_all cs n (omega arith))
 

@@ -1,6 +1,6 @@
 -- Sums over a list, of which a test may leave terms out.
 use Rattle.std.proofs.Common.{◌≡◌, ℕ, ◌+◌, ◌*◌, ◌<◌, ◌≤◌, Bool, true, false, ◌&&◌, List, [], ◌∷◌, length, get_or, drop, sym, refl, ap, ◌∙◌, arith}
-use Rattle.std.specs.List.{AllByRecursion as All}
+use Rattle.std.specs.List.{AllByRecursion}
 use Rattle.std.proofs.lemmas.List.{drop_more, drop_all}
 use Rattle.coverage.specs.Allocation.{total, amount_if}
 
@@ -45,18 +45,18 @@ if_and_false false b x e = refl
 -- Sums over a list.
 
 module _ {X : Type 0} where
-  pub all_of : (P : X → Type 0) → ((x : X) → P x) → (xs : List X) → All P xs
+  pub all_of : (P : X → Type 0) → ((x : X) → P x) → (xs : List X) → AllByRecursion P xs
   all_of P h [] = tt
   all_of P h (x ∷ xs) = (h x, all_of P h xs)
 
-  pub total_le : (f g : X → ℕ) (xs : List X) → All (λ x. f x ≤ g x) xs → total f xs ≤ total g xs
+  pub total_le : (f g : X → ℕ) (xs : List X) → AllByRecursion (λ x. f x ≤ g x) xs → total f xs ≤ total g xs
   total_le f g [] h = omega arith
   total_le f g (x ∷ xs) h = omega (arith, total_le f g xs h.1)
 
   pub total_le_each : (f g : X → ℕ) (xs : List X) → ((x : X) → f x ≤ g x) → total f xs ≤ total g xs
   total_le_each f g xs h = total_le f g xs (all_of (λ x. f x ≤ g x) h xs)
 
-  pub total_same : (f g : X → ℕ) (xs : List X) → All (λ x. f x ≡ g x) xs → total f xs ≡ total g xs
+  pub total_same : (f g : X → ℕ) (xs : List X) → AllByRecursion (λ x. f x ≡ g x) xs → total f xs ≡ total g xs
   total_same f g [] h = refl
   total_same f g (x ∷ xs) h = omega (arith, total_same f g xs h.1)
 
@@ -72,7 +72,7 @@ module _ {X : Type 0} where
   total_none f (x ∷ xs) h = omega (arith, total_none f xs h, h x)
 
   -- terms of a range
-  pub total_range : (f : X → ℕ) (most : ℕ) (xs : List X) → All (λ x. f x ≤ most) xs → total f xs ≤ length xs * most
+  pub total_range : (f : X → ℕ) (most : ℕ) (xs : List X) → AllByRecursion (λ x. f x ≤ most) xs → total f xs ≤ length xs * most
   total_range f most [] h = omega arith
   total_range f most (x ∷ xs) h = omega (arith, total_range f most xs h.1, h.0)
 

@@ -1,6 +1,6 @@
 -- The positions that the figures are worked out for: limited numbers of rows and limited amounts, so that every sum fits 64 bits.
 use Rattle.std.specs.Prelude.{◌+◌, ◌≤◌, length}
-use Rattle.std.specs.List.{AllByRecursion as All}
+use Rattle.std.specs.List.{AllByRecursion}
 use Rattle.coverage.specs.Allocation.{Position, position}
 use Rattle.coverage.specs.declared.position.Position.{Position as Lent}
 
@@ -14,6 +14,6 @@ pub record Admissible (p : Position) : Type 0 where
   pub days_in_order : p.first_day ≤ p.today
   pub few_rows : length p.debts + length p.credits ≤ 256
   pub few_guarantees : length p.guarantees ≤ 64
-  pub debts_in_range : All (λ x. (p.first_day ≤ x.day) × (x.day ≤ p.today) × (x.grains ≤ 32000000000000000)) p.debts
-  pub credits_in_range : All (λ c. c.grains ≤ 32000000000000000) p.credits
-  pub guarantees_in_range : All (λ g. g.worth ≤ 10000000000000000) p.guarantees
+  pub debts_in_range : AllByRecursion (λ x. (p.first_day ≤ x.day) × (x.day ≤ p.today) × (x.grains ≤ 32000000000000000)) p.debts
+  pub credits_in_range : AllByRecursion (λ c. c.grains ≤ 32000000000000000) p.credits
+  pub guarantees_in_range : AllByRecursion (λ g. g.worth ≤ 10000000000000000) p.guarantees

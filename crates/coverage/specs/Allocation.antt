@@ -1,6 +1,6 @@
 -- What it is to allocate one participant's guarantees and credits to its debts, and when an allocation covers them.
 use Rattle.std.specs.Prelude.{◌≡◌, ℕ, ◌+◌, ◌<◌, ◌≤◌, Bool, true, cond, T, List, [], ◌∷◌, length, Some, None, Option, ◌==◌, nat_le, slice_index_or}
-use Rattle.std.specs.List.{AllByRecursion as All}
+use Rattle.std.specs.List.{AllByRecursion}
 use Rattle.coverage.specs.declared.rows.Debt.{Debt}
 use Rattle.coverage.specs.declared.rows.Credit.{Credit}
 use Rattle.coverage.specs.declared.rows.Guarantee.{Guarantee}
@@ -83,8 +83,8 @@ OfItsPeriod p r =
 
 -- The rows are an allocation of this position: each row is permitted, and no guarantee and no credit gives more than it has in all.
 pub record Permitted (p : Position) (a : Allocation) : Type 0 where
-  pub guarantees_in_time : All (ValidOnItsDay p) a.of_guarantees
-  pub credits_in_period : All (OfItsPeriod p) a.of_credits
+  pub guarantees_in_time : AllByRecursion (ValidOnItsDay p) a.of_guarantees
+  pub credits_in_period : AllByRecursion (OfItsPeriod p) a.of_credits
   pub guarantees_once : (i : ℕ) → i < length p.guarantees → taken a.of_guarantees i ≤ (guarantee_at p i).worth
   pub credits_once : (k : ℕ) → k < length p.credits → taken a.of_credits k ≤ (credit_at p k).grains
 

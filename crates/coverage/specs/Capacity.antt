@@ -1,7 +1,7 @@
 -- The three figures of a position: its exposure, its credit position and its capacity.
 use Rattle.std.specs.Prelude.{◌≡◌, ℕ, zero, suc, ◌+◌, ◌-◌, ◌≤◌, Bool, false, cond, ◌&&◌, ◌||◌, List, [], ◌∷◌, ℤ, pos, ◌-ℤ◌, neg_ℤ, ◌≤ℤ◌, ◌==◌, nat_le}
 use Rattle.std.specs.Int.{int_min}
-use Rattle.std.specs.List.{AllByRecursion as All}
+use Rattle.std.specs.List.{AllByRecursion}
 use Rattle.coverage.specs.declared.rows.Debt.{Debt}
 use Rattle.coverage.specs.declared.rows.Credit.{Credit}
 use Rattle.coverage.specs.declared.rows.Guarantee.{Guarantee}
@@ -41,7 +41,7 @@ abbrev pub times : ℕ → List ℕ → ℕ
 times q qs = total (λ r. amount_if (q == r) 1) qs
 
 abbrev pub ListedOnce : List ℕ → List Debt → Type 0
-ListedOnce qs debts = All (λ x. times x.period qs ≡ 1) debts
+ListedOnce qs debts = AllByRecursion (λ x. times x.period qs ≡ 1) debts
 
 abbrev pub HoweverListed : Position → ℕ → Type 0
 HoweverListed p day = (qs : List ℕ) → ListedOnce qs p.debts → total (excess p day) qs ≡ uncredited p day

@@ -1,6 +1,6 @@
 -- What a capacity means, said of allocations.
 use Rattle.std.specs.Prelude.{◌≡◌, ℕ, suc, ◌<◌, ◌≤◌, ◌↔◌, List, ◌∷◌, ℤ, pos, negsuc, ◌≤ℤ◌, ◌<ℤ◌, None, ◌≢◌}
-use Rattle.std.specs.List.{AllZip, AllByRecursion as All}
+use Rattle.std.specs.List.{AllZip, AllByRecursion}
 use Rattle.coverage.specs.declared.rows.Debt.{Debt}
 use Rattle.coverage.specs.Allocation.{Position, position, Allocation, Covers, Coverable}
 use Rattle.coverage.specs.Capacity.{owed, credited, guaranteed, exposure, credit_position, capacity}
@@ -8,7 +8,7 @@ use Rattle.coverage.specs.Capacity.{owed, credited, guaranteed, exposure, credit
 -- The trading days of the debts lie between the first day and today.
 pub record Dated (p : Position) : Type 0 where
   pub in_order : p.first_day ≤ p.today
-  pub each_debt : All (λ x. (p.first_day ≤ x.day) × (x.day ≤ p.today)) p.debts
+  pub each_debt : AllByRecursion (λ x. (p.first_day ≤ x.day) × (x.day ≤ p.today)) p.debts
 
 -- An allocation that covers exists exactly when the capacity is not below 0 ..
 abbrev pub CoveredExactlyFromZero : Position → ℤ → Type 0
@@ -29,8 +29,8 @@ pub record Smallest (P : ℕ → Type 0) (n : ℕ) : Type 0 where
 
 -- No debt and no credit is of this period.
 pub record UnusedPeriod (p : Position) (q : ℕ) : Type 0 where
-  pub no_debts : All (λ x. x.period ≢ q) p.debts
-  pub no_credits : All (λ c. c.period ≢ q) p.credits
+  pub no_debts : AllByRecursion (λ x. x.period ≢ q) p.debts
+  pub no_credits : AllByRecursion (λ c. c.period ≢ q) p.credits
 
 -- The position with other debts, and with a further debt of today, so large and of this period.
 abbrev pub with_debts : Position → List Debt → Position

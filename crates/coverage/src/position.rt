@@ -1,6 +1,6 @@
 //! One participant's position, and whether it is one that the figures are worked out for.
 ghost use Rattle.std.specs.Prelude.{◌+◌, ◌≤◌, length, Decides};
-ghost use Rattle.std.specs.List.{AllByRecursion as All};
+ghost use Rattle.std.specs.List.{AllByRecursion};
 ghost use Rattle.coverage.specs.Admission.{Admissible, position_of};
 
 use crate::rows::{Credit, Debt, Guarantee};
@@ -48,7 +48,7 @@ impl Position<'_> {
 }
 
 fn are_debts_admissible(debts: &[Debt], first_day: u32, today: u32) -> bool
-    ensures each_of_a_day_and_amount_in_range { Decides result (All (λ x. (first_day ≤ x.day) × (x.day ≤ today) × (x.grains ≤ 32000000000000000)) debts.now) }
+    ensures each_of_a_day_and_amount_in_range { Decides result (AllByRecursion (λ x. (first_day ≤ x.day) × (x.day ≤ today) × (x.grains ≤ 32000000000000000)) debts.now) }
 {
     for debt in debts {
         if debt.day < first_day || debt.day > today || debt.grains > GRAINS {
@@ -59,7 +59,7 @@ fn are_debts_admissible(debts: &[Debt], first_day: u32, today: u32) -> bool
 }
 
 fn are_credits_admissible(credits: &[Credit]) -> bool
-    ensures each_amount_in_range { Decides result (All (λ c. c.grains ≤ 32000000000000000) credits.now) }
+    ensures each_amount_in_range { Decides result (AllByRecursion (λ c. c.grains ≤ 32000000000000000) credits.now) }
 {
     for credit in credits {
         if credit.grains > GRAINS {
@@ -70,7 +70,7 @@ fn are_credits_admissible(credits: &[Credit]) -> bool
 }
 
 fn are_guarantees_admissible(guarantees: &[Guarantee]) -> bool
-    ensures each_worth_in_range { Decides result (All (λ g. g.worth ≤ 10000000000000000) guarantees.now) }
+    ensures each_worth_in_range { Decides result (AllByRecursion (λ g. g.worth ≤ 10000000000000000) guarantees.now) }
 {
     for guarantee in guarantees {
         if guarantee.worth > WORTH {

@@ -2,7 +2,7 @@
 use Rattle.std.proofs.Common.{◌≡◌, ℕ, ◌+◌, ◌<◌, ◌≤◌, Bool, true, false, cond, List, ◌∷◌, length, get_or, drop, ℤ, pos, ◌*ℤ◌, sym, refl, ap, ◌∙◌, subst, ap₂, arith}
 use Rattle.std.proofs.ByRecursion.{All-from_get_or}
 use Rattle.std.proofs.lemmas.List.{drop_more, drop_all}
-use Rattle.std.specs.List.{AllByRecursion as All}
+use Rattle.std.specs.List.{AllByRecursion}
 use Rattle.market.specs.declared.orders.Order.{Order}
 use Rattle.market.specs.declared.orders.Side.{Side}
 use Rattle.market.specs.declared.orders.Side.TheVariants.{Buy, Sell}
@@ -19,7 +19,7 @@ pub same_amounts : (b s : ℕ) (p p' e e' : ℤ) → p ≡ p' → e ≡ e' →
     ◌≡◌ {A = Amounts} (record { bought = b; paid = p; sold = s; earned = e }) (record { bought = b; paid = p'; sold = s; earned = e' })
 same_amounts b s p p' e e' h k = ap₂ (λ x y. record { bought = b; paid = x; sold = s; earned = y }) h k
 
-pub limits_hold : {D : Type 0} (cell : OpenCell D) → All (λ o. PriceRange o.limit) (its_orders cell)
+pub limits_hold : {D : Type 0} (cell : OpenCell D) → AllByRecursion (λ o. PriceRange o.limit) (its_orders cell)
 limits_hold cell = All-from_get_or (λ o. PriceRange o.limit) (its_orders cell) no_order cell.limits
 
 -- one order filled takes no more room than its open energy
@@ -39,7 +39,7 @@ module _ (participant day : ℕ) (chosen : Order → Bool) where
   pub record Filling (start : Amounts) (all : List Order) (a : Amounts) (left : List Order) : Type 0 where
     pub leads : at_limits chosen a (open_orders participant day left) ≡ at_limits chosen start all
     pub room : a.bought + a.sold + open_energy (open_orders participant day left) ≤ 100000000
-    pub limits : All (λ o. PriceRange o.limit) (open_orders participant day left)
+    pub limits : AllByRecursion (λ o. PriceRange o.limit) (open_orders participant day left)
 
   module _ {start : Amounts} {all : List Order} {a : Amounts} {o : Order} {left : List Order} (t : Bool) (e : t ≡ belongs participant day o) (f : Filling start all a (o ∷ left)) where
     abbrev rest : Bool → List Order
@@ -48,7 +48,7 @@ module _ (participant day : ℕ) (chosen : Order → Bool) where
     pub next_fits : t ≡ true → (a.bought + a.sold + o.kwh ≤ 100000000) × PriceRange o.limit
     next_fits h = go (belongs participant day o) (sym e ∙ h) f.room f.limits
       where
-        go : (b : Bool) → b ≡ true → a.bought + a.sold + open_energy (rest b) ≤ 100000000 → All (λ o. PriceRange o.limit) (rest b) →
+        go : (b : Bool) → b ≡ true → a.bought + a.sold + open_energy (rest b) ≤ 100000000 → AllByRecursion (λ o. PriceRange o.limit) (rest b) →
             (a.bought + a.sold + o.kwh ≤ 100000000) × PriceRange o.limit
         go true h r l = (omega (arith, r), l.0)
         go false h r l = let z : ◌≡◌ {A = ℕ} 0 1 = cc in absurd (omega arith)
@@ -57,7 +57,7 @@ module _ (participant day : ℕ) (chosen : Order → Bool) where
     next_filled b h = go (belongs participant day o) (h ∙ ap (λ x. cond x (at_limit chosen o a) a) e) f.leads f.room f.limits
       where
         go : (x : Bool) → b ≡ cond x (at_limit chosen o a) a → at_limits chosen a (rest x) ≡ at_limits chosen start all →
-            a.bought + a.sold + open_energy (rest x) ≤ 100000000 → All (λ o. PriceRange o.limit) (rest x) → Filling start all b left
+            a.bought + a.sold + open_energy (rest x) ≤ 100000000 → AllByRecursion (λ o. PriceRange o.limit) (rest x) → Filling start all b left
         go true h p r l = record {
           leads = ap (λ y. at_limits chosen y (open_orders participant day left)) h ∙ p;
           room = omega (arith, r, at_limit_energy chosen o a, ap (λ (y : Amounts). y.bought) h, ap (λ (y : Amounts). y.sold) h);

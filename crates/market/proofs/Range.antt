@@ -1,7 +1,7 @@
 -- An exposure is in range under every rule, since it is 0 or the worth of figures within the limits.
 use Rattle.std.proofs.Common.{◌≡◌, ℕ, ◌*◌, ◌<◌, ◌≤◌, true, List, [], ◌∷◌, length, nat_abs, ap, inl, inr, arith}
 use borrow.Author.Differences.{ints}
-use Rattle.std.specs.List.{AllByRecursion as All}
+use Rattle.std.specs.List.{AllByRecursion}
 use Rattle.std.proofs.ByRecursion.{All-weaker, kept_by_passes}
 use Rattle.std.proofs.lemmas.Bool.Decides.{nat_tests}
 use Rattle.market.specs.declared.orders.Side.{Side}
@@ -34,7 +34,7 @@ cell_within_limits cell = record {
   limits = limits_hold cell;
 }
 
-value_range : (fill : Fill) → All PriceRange fill → nat_abs (value fill) ≤ length fill * 400000
+value_range : (fill : Fill) → AllByRecursion PriceRange fill → nat_abs (value fill) ≤ length fill * 400000
 value_range [] h = omega arith
 value_range (p ∷ fill) h = omega (arith, ints, value_range fill h.1, h.0)
 

@@ -1,6 +1,6 @@
 -- The loop that counts the open energy of a cell.
 use Rattle.std.proofs.Common.{◌≡◌, ℕ, ◌+◌, ◌-◌, ◌<◌, ◌≤◌, Bool, true, false, cond, List, [], ◌∷◌, length, get_or, drop, sym, refl, ap, ◌∙◌, subst, arith}
-use Rattle.std.specs.List.{AllByRecursion as All}
+use Rattle.std.specs.List.{AllByRecursion}
 use Rattle.std.proofs.ByRecursion.{All-get_or}
 use Rattle.std.proofs.lemmas.List.{drop_more, drop_all}
 use Rattle.market.specs.declared.orders.Order.{Order}
@@ -11,7 +11,7 @@ use Rattle.market.specs.Orders.{orders_of, belongs, open_orders, open_energy, no
 -- the orders fit the room
 pub record Fits (room : ℕ) (orders : List Order) : Type 0 where
   pub energy : open_energy orders ≤ room
-  pub limits : All (λ o. PriceRange o.limit) orders
+  pub limits : AllByRecursion (λ o. PriceRange o.limit) orders
 
 module _ (participant day : ℕ) where
   -- the orders that are left fit the room that is left exactly where all fit
@@ -59,5 +59,5 @@ module _ (participant day : ℕ) where
         let e : Counting start all room [] = subst (λ (l : List (Proposal D)). Counting start all room (orders_of l)) (drop_all i rows h) k in
         (e.enough (record { energy = omega arith; limits = tt }), omega (arith, e.same))
 
-pub limits_at : (orders : List Order) → All (λ o. PriceRange o.limit) orders → LimitsInRange orders
+pub limits_at : (orders : List Order) → AllByRecursion (λ o. PriceRange o.limit) orders → LimitsInRange orders
 limits_at orders h k l = All-get_or (λ o. PriceRange o.limit) orders k no_order l h

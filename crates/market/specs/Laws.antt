@@ -7,7 +7,7 @@ use borrow.Author.Differences.{ints}
 use Rattle.std.specs.Int.Signed.{≤ℤ_refl}
 use Rattle.std.proofs.lemmas.List.{length-replicate}
 use Rattle.std.specs.Int.{int_min}
-use Rattle.std.specs.List.{AllByRecursion as All}
+use Rattle.std.specs.List.{AllByRecursion}
 use Rattle.std.proofs.lemmas.Int.{clamps, by_lt_z}
 use Rattle.market.specs.declared.orders.Side.{Side}
 use Rattle.market.specs.declared.orders.Side.TheVariants.{Buy, Sell}
@@ -135,7 +135,7 @@ module _ (check : ℤ) where
     abbrev Reached : Type 0
     Reached = (outcome : Outcome) × (Possible orders outcome × (Unfilled Sell orders outcome ⊎ Unfilled Buy orders outcome)) × (mpeg_worth check vat (after a orders outcome) ≡ least)
 
-    mpeg_reached : All (λ o. PriceRange o.limit) orders → (least ≡ pos 0) ⊎ Reached
+    mpeg_reached : AllByRecursion (λ o. PriceRange o.limit) orders → (least ≡ pos 0) ⊎ Reached
     unfolding with_purchases with_sales
     mpeg_reached h = go (min_one (pos 0) (int_min (with_purchases vat a orders) (with_sales vat a orders))) (min_one (with_purchases vat a orders) (with_sales vat a orders))
       where

@@ -1,6 +1,6 @@
 -- The open orders of a cell, and how much a cell can hold.
 use Rattle.std.specs.Prelude.{ℕ, ◌+◌, ◌*◌, ◌<◌, ◌≤◌, Bool, ◌&&◌, List, [], ◌∷◌, map, length, pos, filter, ◌==◌, nat_lt, slice_index_or, unsigned_abs}
-use Rattle.std.specs.List.{AllByRecursion as All}
+use Rattle.std.specs.List.{AllByRecursion}
 use Rattle.market.specs.declared.orders.Side.TheVariants.{Buy}
 use Rattle.market.specs.declared.orders.Order.{Order}
 use Rattle.market.specs.declared.orders.Proposal.{Proposal}
@@ -36,5 +36,5 @@ pub record WithinLimits (amounts : Amounts) (orders : List Order) : Type 0 where
   pub energy : amounts.bought + amounts.sold + open_energy orders ≤ 100000000
   pub paid : unsigned_abs amounts.paid ≤ amounts.bought * 400000
   pub earned : unsigned_abs amounts.earned ≤ amounts.sold * 400000
-  pub open_still : All (λ o. 0 < o.kwh) orders
-  pub limits : All (λ o. PriceRange o.limit) orders
+  pub open_still : AllByRecursion (λ o. 0 < o.kwh) orders
+  pub limits : AllByRecursion (λ o. PriceRange o.limit) orders

@@ -1,6 +1,6 @@
 -- What may become of the open orders of a cell.
 use Rattle.std.specs.Prelude.{ℕ, ◌+◌, ◌≤◌, List, [], ◌∷◌, length, ℤ, pos, ◌+ℤ◌, ◌≤ℤ◌}
-use Rattle.std.specs.List.{AllByRecursion as All}
+use Rattle.std.specs.List.{AllByRecursion}
 use Rattle.market.specs.declared.orders.Side.{Side}
 use Rattle.market.specs.declared.orders.Side.TheVariants.{Buy, Sell}
 use Rattle.market.specs.declared.orders.Order.{Order}
@@ -24,8 +24,8 @@ NoWorse Sell limit price = limit ≤ℤ price
 -- what the market may do with an order: fill none, some or all of its open kWh
 pub record Fills (order : Order) (prices : Fill) : Type 0 where
   pub at_most_open : length prices ≤ order.kwh
-  pub in_range : All PriceRange prices
-  pub no_worse : All (NoWorse order.side order.limit) prices
+  pub in_range : AllByRecursion PriceRange prices
+  pub no_worse : AllByRecursion (NoWorse order.side order.limit) prices
 
 -- an outcome has a fill for each open order of a cell, in the orders' order
 abbrev pub Outcome : Type 0

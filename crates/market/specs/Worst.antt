@@ -4,7 +4,7 @@ use Rattle.std.proofs.Common.{sym, ap, ap₂, ◌∙◌, arith, mul-le-mul, mul_
 use borrow.Author.Differences.{ints, up, down}
 use Rattle.std.specs.Int.Signed.{≤ℤ_refl}
 use Rattle.std.proofs.lemmas.List.{length-replicate}
-use Rattle.std.specs.List.{AllByRecursion as All}
+use Rattle.std.specs.List.{AllByRecursion}
 use Rattle.std.proofs.ByRecursion.{All-weaker}
 use Rattle.market.specs.declared.orders.Side.{Side}
 use Rattle.market.specs.declared.orders.Side.TheVariants.{Buy, Sell}
@@ -34,11 +34,11 @@ no_gain r Buy = omega (arith, ints, times_zero r)
 no_gain r Sell = omega (arith, ints, times_zero r)
 
 -- prices that are, with r, at most or at least so much
-value_most : (r : ℤ) (m : ℕ) (fill : Fill) → All (λ p. (p +ℤ r) ≤ℤ pos m) fill → (value fill +ℤ r *ℤ pos (length fill)) ≤ℤ pos (length fill * m)
+value_most : (r : ℤ) (m : ℕ) (fill : Fill) → AllByRecursion (λ p. (p +ℤ r) ≤ℤ pos m) fill → (value fill +ℤ r *ℤ pos (length fill)) ≤ℤ pos (length fill * m)
 value_most r m [] h = omega (arith, ints, times_zero r)
 value_most r m (p ∷ fill) h = omega (arith, ints, times_suc r (length fill), suc-mul (length fill) m, value_most r m fill h.1, h.0)
 
-value_least : (r : ℤ) (m : ℕ) (fill : Fill) → All (λ p. neg_ℤ (pos m) ≤ℤ (p +ℤ r)) fill → neg_ℤ (pos (length fill * m)) ≤ℤ (value fill +ℤ r *ℤ pos (length fill))
+value_least : (r : ℤ) (m : ℕ) (fill : Fill) → AllByRecursion (λ p. neg_ℤ (pos m) ≤ℤ (p +ℤ r)) fill → neg_ℤ (pos (length fill * m)) ≤ℤ (value fill +ℤ r *ℤ pos (length fill))
 value_least r m [] h = omega (arith, ints, times_zero r)
 value_least r m (p ∷ fill) h = omega (arith, ints, times_suc r (length fill), suc-mul (length fill) m, value_least r m fill h.1, h.0)
 
@@ -55,16 +55,16 @@ at_least_down : (z : ℤ) → neg_ℤ (pos (down z)) ≤ℤ z
 at_least_down (pos n) = omega (arith, ints)
 at_least_down (negsuc n) = omega (arith, ints)
 
-gain_least : (r : ℤ) (side : Side) (kwh : ℕ) (limit : ℤ) (fill : Fill) → length fill ≤ kwh → All (NoWorse side limit) fill →
+gain_least : (r : ℤ) (side : Side) (kwh : ℕ) (limit : ℤ) (fill : Fill) → length fill ≤ kwh → AllByRecursion (NoWorse side limit) fill →
     neg_ℤ (pos (cost side kwh (limit +ℤ r))) ≤ℤ gain r side (length fill) (value fill)
 unfolding cost
 gain_least r Buy kwh limit fill n h =
     let m : ℕ = up (limit +ℤ r) in
-    let l : All (λ p. (p +ℤ r) ≤ℤ pos m) fill = All-weaker (λ p. p ≤ℤ limit) (λ p. (p +ℤ r) ≤ℤ pos m) (λ p l. omega (arith, ints, at_most_up (limit +ℤ r))) fill h in
+    let l : AllByRecursion (λ p. (p +ℤ r) ≤ℤ pos m) fill = All-weaker (λ p. p ≤ℤ limit) (λ p. (p +ℤ r) ≤ℤ pos m) (λ p l. omega (arith, ints, at_most_up (limit +ℤ r))) fill h in
     omega (arith, ints, value_most r m fill l, mul-le-mul n (le_refl m))
 gain_least r Sell kwh limit fill n h =
     let m : ℕ = down (limit +ℤ r) in
-    let l : All (λ p. neg_ℤ (pos m) ≤ℤ (p +ℤ r)) fill = All-weaker (λ p. limit ≤ℤ p) (λ p. neg_ℤ (pos m) ≤ℤ (p +ℤ r)) (λ p l. omega (arith, ints, at_least_down (limit +ℤ r))) fill h in
+    let l : AllByRecursion (λ p. neg_ℤ (pos m) ≤ℤ (p +ℤ r)) fill = All-weaker (λ p. limit ≤ℤ p) (λ p. neg_ℤ (pos m) ≤ℤ (p +ℤ r)) (λ p l. omega (arith, ints, at_least_down (limit +ℤ r))) fill h in
     omega (arith, ints, value_least r m fill l, mul-le-mul n (le_refl m))
 
 -- a losing order loses that whole at its limit, and any other loses nothing
@@ -143,7 +143,7 @@ module _ (chosen : Order → Bool) where
   abbrev pub at_limit_outcome : List Order → Outcome
   at_limit_outcome = map at_limit_fill
 
-  pub possible : (orders : List Order) → All (λ o. PriceRange o.limit) orders → Possible orders (at_limit_outcome orders)
+  pub possible : (orders : List Order) → AllByRecursion (λ o. PriceRange o.limit) orders → Possible orders (at_limit_outcome orders)
   possible [] h = tt
   possible (o ∷ orders) h = (go (chosen o), possible orders h.1)
     where
@@ -151,7 +151,7 @@ module _ (chosen : Order → Bool) where
       same Buy = ≤ℤ_refl o.limit
       same Sell = ≤ℤ_refl o.limit
 
-      each : (P : ℤ → Type 0) → P o.limit → (n : ℕ) → All P (replicate n o.limit)
+      each : (P : ℤ → Type 0) → P o.limit → (n : ℕ) → AllByRecursion P (replicate n o.limit)
       each P l zero = tt
       each P l (suc n) = (l, each P l n)
 

@@ -1,6 +1,6 @@
 -- The fault due, over one table of causes and over two. Assumes nothing.
 use Rattle.std.proofs.Common.{◌≡◌, ℕ, ◌≤◌, Bool, true, false, cond, ◌&&◌, leb, List, [], ◌∷◌, ◌++◌, Some, None, Ok, Err, Option, refl, ap, inl, inr, arith}
-use Rattle.std.specs.List.{AllByRecursion as All}
+use Rattle.std.specs.List.{AllByRecursion}
 use Rattle.std.proofs.lemmas.Bool.Decides.{nat_tests}
 use Rattle.records.specs.Refusals.{Cause, ◌when◌, due, Smallest, cleared}
 
@@ -35,12 +35,12 @@ module _ {F : Type 0} where
   due_second (x ∷ xs) ys e = second_by x.present x.fault xs ys (due_second xs ys) e
 
   -- with no fault due no cause is there
-  absent_by : (b : Bool) (x : Cause F) (xs : List (Cause F)) → x.present ≡ b → (due xs ≡ None → All (λ c. c.present ≡ false) xs) →
-      cond b (Some x.fault) (due xs) ≡ None → All (λ c. c.present ≡ false) (x ∷ xs)
+  absent_by : (b : Bool) (x : Cause F) (xs : List (Cause F)) → x.present ≡ b → (due xs ≡ None → AllByRecursion (λ c. c.present ≡ false) xs) →
+      cond b (Some x.fault) (due xs) ≡ None → AllByRecursion (λ c. c.present ≡ false) (x ∷ xs)
   absent_by true x xs p rest e = absurd (let z : ◌≡◌ {A = ℕ} 0 1 = cc in omega arith)
   absent_by false x xs p rest e = (p, rest e)
 
-  pub all_absent : (xs : List (Cause F)) → due xs ≡ None → All (λ c. c.present ≡ false) xs
+  pub all_absent : (xs : List (Cause F)) → due xs ≡ None → AllByRecursion (λ c. c.present ≡ false) xs
   all_absent [] e = tt
   all_absent (x ∷ xs) e = absent_by x.present x xs refl (all_absent xs) e
 
@@ -63,7 +63,7 @@ module _ {F : Type 0} (rank : F → ℕ) where
   rises [] = true
   rises (x ∷ xs) = from (rank x.fault) xs && rises xs
 
-  all_from : (n : ℕ) (xs : List (Cause F)) → from n xs ≡ true → All (λ x. x.present ≡ true → n ≤ rank x.fault) xs
+  all_from : (n : ℕ) (xs : List (Cause F)) → from n xs ≡ true → AllByRecursion (λ x. x.present ≡ true → n ≤ rank x.fault) xs
   all_from n [] e = tt
   all_from n (x ∷ xs) e = (λ p. let h = and_left (leb n (rank x.fault)) (from n xs) e in grind (arith, nat_tests), all_from n xs (and_right (leb n (rank x.fault)) (from n xs) e))
 

@@ -1,6 +1,6 @@
 -- The numbers of the refusals, and which of several is due. Assumes nothing.
 use Rattle.std.specs.Prelude.{◌≡◌, ℕ, ◌+◌, ◌*◌, ◌≤◌, Bool, true, false, cond, ◌||◌, ◌⊎◌, List, [], ◌∷◌, Some, None, Ok, Err, Option, Result, nat_lt}
-use Rattle.std.specs.List.{AllByRecursion as All}
+use Rattle.std.specs.List.{AllByRecursion}
 use Rattle.market.specs.declared.listed.ListFault.{ListFault}
 use Rattle.records.specs.declared.fault.Fault.{Fault}
 use Rattle.records.specs.declared.fault.Fault.TheVariants.{NumberOutOfRange, PriceOutOfRange, RateOutOfRange, AmountOutOfRange, DayOutOfRange, UnknownParticipant, AlreadyAdmitted, UnknownGuarantee, NumberUsed, DayPast, TableFull}
@@ -60,9 +60,9 @@ module _ {F : Type 0} where
   -- A fault is the right one to answer when its condition holds, and every other whose condition holds has a larger number,
   -- or the same number at a place further right; none is right only when no condition holds.
   abbrev pub Smallest : (F → ℕ) → List (Cause F) → Option F → Type 0
-  Smallest rank causes None = All (λ cause. cause.present ≡ false) causes
+  Smallest rank causes None = AllByRecursion (λ cause. cause.present ≡ false) causes
   Smallest rank causes (Some fault) =
-      Present fault causes × All (λ cause. cause.present ≡ true → rank fault ≤ rank cause.fault) causes
+      Present fault causes × AllByRecursion (λ cause. cause.present ≡ true → rank fault ≤ rank cause.fault) causes
 
   -- what a check answers: nothing, or the fault due
   abbrev pub cleared : Option F → Result (Unit {0}) F

@@ -1,6 +1,6 @@
 -- Lemmas on how a text falls into fields.
 use Rattle.std.proofs.Common.{◌≡◌, ℕ, suc, ◌+◌, ◌-◌, ◌<◌, ◌≤◌, false, cond, eqb, List, [], ◌∷◌, ◌++◌, length, get_or, take, drop, sym, refl, ap, ◌∙◌, ⊎_elim, append-nil, arith}
-use Rattle.std.specs.List.{flat_map, AllByRecursion as All}
+use Rattle.std.specs.List.{flat_map, AllByRecursion}
 use Rattle.std.proofs.lemmas.List.{at_drop_more, take_rest}
 use Rattle.std.proofs.lemmas.Bool.{cases_Bool, eqb-true, eqb-false, ne_eqb}
 use Rattle.wire.specs.Fields.{comma, before, fields, Plain, OneSplit}
@@ -68,7 +68,7 @@ plain_before [] = tt
 plain_before (x ∷ xs) =
     ⊎_elim (λ t. rw t tt) (λ f. rw f (eqb-false x comma f, plain_before xs)) (cases_Bool (eqb x comma))
 
-plain_fields : (xs : List ℕ) → All Plain (fields xs)
+plain_fields : (xs : List ℕ) → AllByRecursion Plain (fields xs)
 unfolding fields
 plain_fields [] = tt
 plain_fields (x ∷ xs) =
@@ -93,7 +93,7 @@ before_joined (f ∷ fs) = refl
 before_split : (lead : List ℕ) (fs : List (List ℕ)) → Plain lead → before (lead ++ flat_map (λ f. comma ∷ f) fs) ≡ lead
 before_split lead fs h = before_lead lead _ h ∙ ap (λ ys. lead ++ ys) (before_joined fs) ∙ append-nil lead
 
-fields_split : (fs : List (List ℕ)) → All Plain fs → fields (flat_map (λ f. comma ∷ f) fs) ≡ fs
+fields_split : (fs : List (List ℕ)) → AllByRecursion Plain fs → fields (flat_map (λ f. comma ∷ f) fs) ≡ fs
 unfolding fields
 fields_split [] h = refl
 fields_split (f ∷ fs) (p, h) =

@@ -7,7 +7,7 @@ use Rattle.std.proofs.lemmas.Fmt.{digits_decimal, decimal_step, decimal_digit, d
 use Rattle.std.proofs.lemmas.List.{append_cancel_right, drop_all, drop_at, drop-drop, drop-set, length-append, length-set, length-take-le, set_split, take_at}
 use Rattle.std.proofs.lemmas.Int.{to_z-of_z}
 use Rattle.std.proofs.lemmas.Bool.Decides.{nat_tests}
-use Rattle.std.specs.List.{flat_map, AllByRecursion as All}
+use Rattle.std.specs.List.{flat_map, AllByRecursion}
 use Rattle.std.specs.Str.{all_ascii_digits}
 use Rattle.wire.specs.Fields.{comma, Plain, Split}
 use Rattle.wire.specs.Lines.{overwritten, fronted, line_feed, line_of, status_digit, layer_letter, answer_text, answer_fields, refusal_text, refusal_fields, FallsInto, ReadsBack}
@@ -182,7 +182,7 @@ plain_layer Field = ((λ e. omega arith), tt)
 plain_layer Book = ((λ e. omega arith), tt)
 
 -- so a line falls into the fields that were written
-falls_into : (number : ℕ) (fs : List (List ℕ)) → SFits w64 (pos number) → All Plain fs → FallsInto (line_of number fs) number fs
+falls_into : (number : ℕ) (fs : List (List ℕ)) → SFits w64 (pos number) → AllByRecursion Plain fs → FallsInto (line_of number fs) number fs
 falls_into number fs f p row e =
     let r : row ≡ decimal number ++ flat_map (λ g. comma ∷ g) fs = append_cancel_right row _ (line_feed ∷ []) e in
     let s : Split row (decimal number) fs = record { whole = sym r; plain_lead = plain_signed (pos number) f; plain_fields = p } in

@@ -1,6 +1,6 @@
 -- How the text after a command's letter falls into fields, and what a reader of it has left.
 use Rattle.std.specs.Prelude.{◌≡◌, ℕ, ◌+◌, min, cond, List, [], ◌∷◌, ◌++◌, Some, None, Option, ◌==◌, ◌≢◌}
-use Rattle.std.specs.List.{flat_map, AllByRecursion as All}
+use Rattle.std.specs.List.{flat_map, AllByRecursion}
 use Rattle.wire.specs.declared.fields.Field.{Field}
 use Rattle.wire.specs.declared.fields.Reader.{Reader}
 
@@ -21,13 +21,13 @@ fields (b ∷ bs) = cond (b == comma) (before bs ∷ fields bs) (fields bs)
 
 -- no byte is a comma
 abbrev pub Plain : List ℕ → Type 0
-Plain bs = All (λ b. b ≢ comma) bs
+Plain bs = AllByRecursion (λ b. b ≢ comma) bs
 
 -- a text is a lead and then fields, each after a comma, with no comma inside any of them
 pub record Split (text lead : List ℕ) (fs : List (List ℕ)) : Type 0 where
   pub whole : lead ++ flat_map (λ f. comma ∷ f) fs ≡ text
   pub plain_lead : Plain lead
-  pub plain_fields : All Plain fs
+  pub plain_fields : AllByRecursion Plain fs
 
 -- a text splits by commas in exactly one way, and that is into its fields
 abbrev pub OneSplit : List ℕ → Type 0
