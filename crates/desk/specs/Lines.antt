@@ -1,5 +1,5 @@
 -- What a line does: all that it can be refused for, what it does to the book, and what is written. Assumes nothing.
-use Rattle.std.specs.Prelude.{◌≡◌, ℕ, true, cond, ltb, ◌⊎◌, List, [], ◌∷◌, ◌++◌, map, length, pos, is_some, Some, None, Ok, Err, Option, Result, nat_lt}
+use Rattle.std.specs.Prelude.{◌≡◌, ℕ, true, cond, ◌⊎◌, List, [], ◌∷◌, ◌++◌, map, length, pos, is_some, Some, None, Ok, Err, Option, Result, nat_lt}
 use Rattle.std.specs.Option.{option_map}
 use Rattle.market.specs.declared.any.Market.{Market}
 use Rattle.market.specs.declared.weeks.Weeks.{Weeks}
@@ -49,11 +49,11 @@ against_books (Some c) book = against_book c book
 -- all that a line can be refused for, apart from a short answer buffer
 abbrev pub line_causes : List ℕ → Books → List (Cause LineFault)
 line_causes line book =
-    (LineTooLong when ltb 80 (length line)) ∷ (line_form line ++ against_books (command_of line) book)
+    (LineTooLong when nat_lt 80 (length line)) ∷ (line_form line ++ against_books (command_of line) book)
 
 -- all that a line can be refused for, given the bytes of the answer buffer
 abbrev pub causes : ℕ → List ℕ → Books → List (Cause LineFault)
-causes room line book = (BufferTooShort when ltb room line_room) ∷ line_causes line book
+causes room line book = (BufferTooShort when nat_lt room line_room) ∷ line_causes line book
 
 -- what opening the book answers
 abbrev pub zeros : Answer

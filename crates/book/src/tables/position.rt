@@ -3,7 +3,7 @@
 ghost use Rattle.std.specs.Prelude.{◌≡◌, ◌<◌, ◌≤◌, true, length, is_some, IfSome, vec_len};
 ghost use Rattle.records.specs.Rows.{amounts_in_range};
 ghost use Rattle.records.specs.Capacity.{worth_on, guaranteed, position};
-ghost use Rattle.records.specs.Capacity.{share_of as the-share-of};
+ghost use Rattle.records.specs.Capacity.{share_of as the_share_of};
 ghost use Rattle.records.specs.Rows.{is_participant};
 ghost use Rattle.records.specs.Tables.{find, place};
 ghost use Rattle.records.specs.Calls.{known};
@@ -64,7 +64,7 @@ impl<R, C> Book<R, C> {
 
     /// A participant's share, 0 where there is no such participant.
     fn share_of(&self, participant: u64) -> u64
-        ensures value { result ≡ the-share-of (find (is_participant participant) self.now.participants.items) }
+        ensures value { result ≡ the_share_of (find (is_participant participant) self.now.participants.items) }
         ensures bound { result ≤ 1000 }
     {
         match self.participant_at(participant) {

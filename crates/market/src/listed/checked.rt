@@ -1,5 +1,5 @@
 //! A list of last days, checked, and its periods.
-ghost use Rattle.std.specs.Prelude.{◌≡◌, ◌≤◌, not, ltb, length, Ok, Err, MatchBool, nat_lt, refl};
+ghost use Rattle.std.specs.Prelude.{◌≡◌, ◌≤◌, not, length, Ok, Err, MatchBool, nat_lt, refl};
 ghost use Rattle.market.specs.Calendars.{Rising, InCalendar, Due, last_days_before};
 ghost use Rattle.std.proofs.Common.{arith};
 ghost use Rattle.std.proofs.lemmas.List.Filters.{length-filter_both};
@@ -62,7 +62,7 @@ impl Calendar for Listed {
     ghost periods = { λ listed day. last_days_before day listed.days.items };
 
     // a list of 60 days has no more than 60 days before another
-    ghost ranged = { λ listed day h. omega (arith, length-filter_both (λ last. ltb last day) (λ last. not (nat_lt last day)) (λ last. refl) listed.days.items, listed.short) };
+    ghost ranged = { λ listed day h. omega (arith, length-filter_both (λ last. nat_lt last day) (λ last. not (nat_lt last day)) (λ last. refl) listed.days.items, listed.short) };
 
     fn period(&self, day: u32) -> u32 {
         days_before(day, &self.days) as u32
