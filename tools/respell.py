@@ -6,7 +6,7 @@ usage: python3 tools/respell.py        at the top, once, right after the kit's p
 It renames what specs/ and proofs/ declare or bind with a dash in the name. Names of the library, names that the check makes of
 the source (goals, branches, loops), functions of src/, strings and the prose of comments keep their spelling; a name in
 backquotes in a comment is turned. Names that fall together are printed as 'clash:', and nothing is written then
-but with --anyway: each was looked at, and is a variable beside a field, or a definition beside the function that computes it.
+but with --anyway: each was looked at, and is a variable beside a field, or a definition beside a field or the function that computes it.
 """
 
 import os

@@ -24,8 +24,7 @@ invariant_of-result g c =
 
 pub price-requires : goal.price-requires
 price-requires g c =
-    let e : to_z w64 (of_z w64 c.args.terms.reference) ≡ c.args.terms.reference = omega (arith, ints) in
-    record { in_range = rw e (checked_reference c.args.terms c.in_ok-check.ensures.fault_due_for_the_input) }
+    record { in_range = omega (arith, ints, checked_reference c.args.terms c.in_ok-check.ensures.fault_due_for_the_input) }
 
 pub returns : goal.returns
 returns g c =
