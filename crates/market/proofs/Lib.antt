@@ -1,5 +1,4 @@
 pub mod Lists
-pub mod Fits
 pub mod Filling
-pub mod Rooms
+pub mod Open
 pub mod Range

@@ -19,7 +19,7 @@ use Rattle.market.specs.declared.any.Market.TheVariants.{Xbid, Mpeg, Pce}
 use Rattle.market.specs.Units.{PriceRange, VatRange, grains}
 use Rattle.market.specs.Orders.{WithinLimits}
 use Rattle.market.specs.Outcomes.{Outcome, Along, Possible, traded, value, after, nothing_traded}
-use Rattle.market.specs.Limits.{loses, buys, sells, every, losing, losing_purchase, losing_sale, at_limit, at_limits}
+use Rattle.market.specs.Limits.{loses, is_on, every, losing, losing_on, losing_purchase, at_limit, at_limits}
 use Rattle.market.specs.Rule.{Sound, Lawful}
 use Rattle.market.specs.Rules.{xbid_worth, xbid_valuation, mpeg_worth, Unfilled, mpeg_valuation, cct, imbalance, pce_worth, FilledWhole, pce_valuation, xbid, mpeg, pce, any}
 use Rattle.market.specs.Products.{times_zero, times_mono, abs_times}
@@ -77,93 +77,76 @@ xbid_lawful = record { sound = λ rule. xbid_sound; reads_back = λ rule price. 
 
 -- MPEG
 
--- the fills of an outcome that leaves a side unfilled are those of the other side
-unfilled_allowed : (side : Side) (p : Side → Bool) → ((s : Side) → p s ≡ false → s ≡ side) → (orders : List Order) (outcome : Outcome) → Unfilled side orders outcome →
-    Along (λ o fill. p o.side ≡ false → fill ≡ []) orders outcome
-unfilled_allowed side p f [] [] h = tt
-unfilled_allowed side p f [] (fill ∷ outcome) h = absurd h
-unfilled_allowed side p f (o ∷ orders) [] h = absurd h
-unfilled_allowed side p f (o ∷ orders) (fill ∷ outcome) h = ((λ e. h.0 (f o.side e)), unfilled_allowed side p f orders outcome h.1)
+abbrev opposite : Side → Side
+opposite Buy = Sell
+opposite Sell = Buy
 
--- where no order of a side is chosen, the outcome at the limits leaves that side unfilled
-at_limits_unfilled : (side : Side) (chosen : Order → Bool) → ((o : Order) → o.side ≡ side → chosen o ≡ false) → (orders : List Order) → Unfilled side orders (at_limit_outcome chosen orders)
-at_limits_unfilled side chosen f [] = tt
-at_limits_unfilled side chosen f (o ∷ orders) = ((λ e. ap (λ t. cond t (replicate o.kwh o.limit) []) (f o e)), at_limits_unfilled side chosen f orders)
+not_on : (side s : Side) → is_on side s ≡ false → s ≡ opposite side
+not_on Buy Buy e = cc
+not_on Buy Sell e = refl
+not_on Sell Buy e = refl
+not_on Sell Sell e = cc
 
-not_buys : (s : Side) → buys s ≡ false → s ≡ Sell
-not_buys Buy e = cc
-not_buys Sell e = refl
+on_opposite : (side s : Side) → s ≡ opposite side → is_on side s ≡ false
+on_opposite Buy s e = ap (is_on Buy) e
+on_opposite Sell s e = ap (is_on Sell) e
 
-not_sells : (s : Side) → sells s ≡ false → s ≡ Buy
-not_sells Buy e = refl
-not_sells Sell e = cc
+-- the fills of an outcome that leaves the other side unfilled are those of the side
+unfilled_allowed : (side : Side) (orders : List Order) (outcome : Outcome) → Unfilled (opposite side) orders outcome → Along (λ o fill. is_on side o.side ≡ false → fill ≡ []) orders outcome
+unfilled_allowed side [] [] h = tt
+unfilled_allowed side [] (fill ∷ outcome) h = absurd h
+unfilled_allowed side (o ∷ orders) [] h = absurd h
+unfilled_allowed side (o ∷ orders) (fill ∷ outcome) h = ((λ e. h.0 (not_on side o.side e)), unfilled_allowed side orders outcome h.1)
 
 module _ (check : ℤ) where
-  no_sale : (o : Order) → o.side ≡ Sell → losing_purchase check o ≡ false
-  no_sale o e = ap (λ s. buys s && loses s (o.limit +ℤ check)) e
-
-  no_purchase : (o : Order) → o.side ≡ Buy → losing_sale check o ≡ false
-  no_purchase o e = ap (λ s. sells s && loses s (o.limit +ℤ check)) e
-
-  -- the worth with the losing purchases, and with the losing sales
-  with_purchases : ℕ → Amounts → List Order → ℤ
-  with_purchases vat a orders = mpeg_worth check vat (at_limits (losing_purchase check) a orders)
-
-  with_sales : ℕ → Amounts → List Order → ℤ
-  with_sales vat a orders = mpeg_worth check vat (at_limits (losing_sale check) a orders)
+  -- with the losing orders of one side filled at their limits, the other side is unfilled
+  at_limits_unfilled : (side : Side) (orders : List Order) → Unfilled (opposite side) orders (at_limit_outcome (losing_on side check) orders)
+  at_limits_unfilled side [] = tt
+  at_limits_unfilled side (o ∷ orders) = ((λ e. ap (λ t. cond (t && loses o.side (o.limit +ℤ check)) (replicate o.kwh o.limit) []) (on_opposite side o.side e)), at_limits_unfilled side orders)
 
   module _ (vat : ℕ) (a : Amounts) (orders : List Order) where
-    purchases_least : (outcome : Outcome) → Possible orders outcome → Unfilled Sell orders outcome → with_purchases vat a orders ≤ℤ mpeg_worth check vat (after a orders outcome)
-    unfolding with_purchases
-    purchases_least outcome h w =
-        times_mono (100 + vat) (net check (at_limits (losing_purchase check) a orders)) (net check (after a orders outcome))
-        (none_worse check buys (λ o. o.limit +ℤ check) (λ o. refl) a a orders outcome h (unfilled_allowed Sell buys not_buys orders outcome w) (≤ℤ_refl (net check a)))
+    -- the worth with the losing orders of a side
+    filled_on : Side → ℤ
+    filled_on side = mpeg_worth check vat (at_limits (losing_on side check) a orders)
 
-    sales_least : (outcome : Outcome) → Possible orders outcome → Unfilled Buy orders outcome → with_sales vat a orders ≤ℤ mpeg_worth check vat (after a orders outcome)
-    unfolding with_sales
-    sales_least outcome h w =
-        times_mono (100 + vat) (net check (at_limits (losing_sale check) a orders)) (net check (after a orders outcome))
-        (none_worse check sells (λ o. o.limit +ℤ check) (λ o. refl) a a orders outcome h (unfilled_allowed Buy sells not_sells orders outcome w) (≤ℤ_refl (net check a)))
+    side_least : (side : Side) (outcome : Outcome) → Possible orders outcome → Unfilled (opposite side) orders outcome → filled_on side ≤ℤ mpeg_worth check vat (after a orders outcome)
+    unfolding filled_on
+    side_least side outcome h w =
+        times_mono (100 + vat) (net check (at_limits (losing_on side check) a orders)) (net check (after a orders outcome))
+        (none_worse check (is_on side) (λ o. o.limit +ℤ check) (λ o. refl) a a orders outcome h (unfilled_allowed side orders outcome w) (≤ℤ_refl (net check a)))
 
     abbrev least : ℤ
-    least = int_min (pos 0) (int_min (with_purchases vat a orders) (with_sales vat a orders))
+    least = int_min (pos 0) (int_min (filled_on Buy) (filled_on Sell))
 
     mpeg_least : (outcome : Outcome) → Possible orders outcome → Unfilled Sell orders outcome ⊎ Unfilled Buy orders outcome → least ≤ℤ mpeg_worth check vat (after a orders outcome)
-    mpeg_least outcome h (inl w) = omega (arith, ints, clamps, purchases_least outcome h w)
-    mpeg_least outcome h (inr w) = omega (arith, ints, clamps, sales_least outcome h w)
+    mpeg_least outcome h (inl w) = omega (arith, ints, clamps, side_least Buy outcome h w)
+    mpeg_least outcome h (inr w) = omega (arith, ints, clamps, side_least Sell outcome h w)
 
     abbrev Reached : Type 0
     Reached = (outcome : Outcome) × (Possible orders outcome × (Unfilled Sell orders outcome ⊎ Unfilled Buy orders outcome)) × (mpeg_worth check vat (after a orders outcome) ≡ least)
 
     mpeg_reached : AllByRecursion (λ o. PriceRange o.limit) orders → (least ≡ pos 0) ⊎ Reached
-    unfolding with_purchases with_sales
-    mpeg_reached h = go (min_one (pos 0) (int_min (with_purchases vat a orders) (with_sales vat a orders))) (min_one (with_purchases vat a orders) (with_sales vat a orders))
+    unfolding filled_on
+    mpeg_reached h =
+        elim (min_one (pos 0) (int_min (filled_on Buy) (filled_on Sell))) [
+          | inl z ↦ inl z
+          | inr z ↦ elim (min_one (filled_on Buy) (filled_on Sell)) [ inl w ↦ by Buy (z ∙ w) (inl (at_limits_unfilled Buy orders)) | inr w ↦ by Sell (z ∙ w) (inr (at_limits_unfilled Sell orders)) ]
+        ]
       where
-        go : (least ≡ pos 0) ⊎ (least ≡ int_min (with_purchases vat a orders) (with_sales vat a orders)) →
-            (int_min (with_purchases vat a orders) (with_sales vat a orders) ≡ with_purchases vat a orders) ⊎ (int_min (with_purchases vat a orders) (with_sales vat a orders) ≡ with_sales vat a orders) →
-            (least ≡ pos 0) ⊎ Reached
-        go (inl z) w = inl z
-        go (inr z) (inl w) = inr (
-          at_limit_outcome (losing_purchase check) orders,
-          (possible (losing_purchase check) orders h, inl (at_limits_unfilled Sell (losing_purchase check) no_sale orders)),
-          ap (mpeg_worth check vat) (after_at_limits (losing_purchase check) a orders) ∙ sym (z ∙ w),
-        )
-        go (inr z) (inr w) = inr (
-          at_limit_outcome (losing_sale check) orders,
-          (possible (losing_sale check) orders h, inr (at_limits_unfilled Buy (losing_sale check) no_purchase orders)),
-          ap (mpeg_worth check vat) (after_at_limits (losing_sale check) a orders) ∙ sym (z ∙ w),
-        )
+        by : (side : Side) → least ≡ filled_on side →
+            Unfilled Sell orders (at_limit_outcome (losing_on side check) orders) ⊎ Unfilled Buy orders (at_limit_outcome (losing_on side check) orders) → (least ≡ pos 0) ⊎ Reached
+        by side e w = inr (at_limit_outcome (losing_on side check) orders, (possible (losing_on side check) orders h, w), ap (mpeg_worth check vat) (after_at_limits (losing_on side check) a orders) ∙ sym e)
 
   net_range : PriceRange check → (a : Amounts) → WithinLimits a [] → unsigned_abs (net check a) ≤ 80000000000000
   net_range l a h = omega (arith, ints, h.energy, h.paid, h.earned, abs_times check a.sold 400000 a.sold l (le_refl a.sold), abs_times check a.bought 400000 a.bought l (le_refl a.bought))
 
   mpeg_sound : PriceRange check → Sound (mpeg_valuation check)
-  unfolding with_purchases with_sales
+  unfolding filled_on
   mpeg_sound l = record {
     nothing_is_worth_0 = λ vat v. let e : net check nothing_traded ≡ pos 0 = omega (arith, ints, times_zero check) in ap (grains vat) e ∙ grains_zero vat;
     worth_in_range = λ vat a v h. grains_range vat (net check a) v (net_range l a h);
-    some_counted = λ a orders h. (at_limit_outcome (losing_purchase check) orders, (possible (losing_purchase check) orders h.limits, inl (at_limits_unfilled Sell (losing_purchase check) no_sale orders)));
-    at_most_0 = λ vat a orders v h. (min_under (int_min (with_purchases vat a orders) (with_sales vat a orders))).0;
+    some_counted = λ a orders h. (at_limit_outcome (losing_purchase check) orders, (possible (losing_purchase check) orders h.limits, inl (at_limits_unfilled Buy orders)));
+    at_most_0 = λ vat a orders v h. (min_under (int_min (filled_on vat a orders Buy) (filled_on vat a orders Sell))).0;
     none_below = λ vat a orders v h outcome w. mpeg_least vat a orders outcome w.0 w.1;
     reached = λ vat a orders v h. mpeg_reached vat a orders h.limits;
   }
