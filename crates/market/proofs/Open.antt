@@ -1,14 +1,17 @@
 -- The loops over the open orders of a cell.
 use Rattle.std.proofs.Common.{◌≡◌, ℕ, ◌+◌, ◌<◌, ◌≤◌, Bool, true, false, cond, List, [], ◌∷◌, length, get_or, drop, ℤ, pos, ◌*ℤ◌, sym, ap, ap₂, ◌∙◌, subst, arith}
 use Rattle.std.specs.List.{AllByRecursion}
+use Rattle.std.proofs.ByRecursion.{All-from_get_or}
 use Rattle.std.proofs.lemmas.List.{drop_more}
 use Rattle.market.specs.declared.orders.Order.{Order}
 use Rattle.market.specs.declared.orders.Side.{Side}
 use Rattle.market.specs.declared.orders.Side.TheVariants.{Buy, Sell}
 use Rattle.market.specs.declared.orders.Proposal.{Proposal}
 use Rattle.market.specs.declared.figures.Amounts.{Amounts}
+use Rattle.market.specs.declared.figures.OpenCell.{OpenCell}
 use Rattle.market.specs.Units.{PriceRange}
-use Rattle.market.specs.Orders.{belongs, open_among, open_energy}
+use Rattle.market.specs.Orders.{belongs, open_among, open_energy, no_order}
+use Rattle.market.specs.Cells.{its_orders}
 use Rattle.market.specs.Outcomes.{traded}
 use Rattle.market.specs.Limits.{at_limit, at_limits}
 
@@ -61,3 +64,7 @@ filled {Q} {start} {all} {a} {whole} {o} {left} t limit b whole-filling h q l e 
     takes true Buy v = omega arith
     takes true Sell v = omega arith
     takes false side v = omega arith
+
+-- the limits of a cell's open orders are prices
+pub limits_hold : {D : Type 0} (cell : OpenCell D) → AllByRecursion (λ o. PriceRange o.limit) (its_orders cell)
+limits_hold cell = All-from_get_or (λ o. PriceRange o.limit) (its_orders cell) no_order cell.limits

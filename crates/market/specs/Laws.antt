@@ -22,7 +22,7 @@ use Rattle.market.specs.Outcomes.{Outcome, Along, Possible, traded, value, after
 use Rattle.market.specs.Limits.{loses, is_on, every, losing, losing_on, losing_purchase, at_limit, at_limits}
 use Rattle.market.specs.Rule.{Sound, Lawful}
 use Rattle.market.specs.Rules.{xbid_worth, xbid_valuation, mpeg_worth, Unfilled, mpeg_valuation, cct, imbalance, pce_worth, FilledWhole, pce_valuation, xbid, mpeg, pce, any}
-use Rattle.market.specs.Products.{times_zero, times_mono, abs_times}
+use Rattle.market.specs.Products.{times_mono, abs_times}
 use Rattle.market.specs.Worst.{net, none_worse, at_limit_outcome, possible, after_at_limits}
 
 abbrev InRange : ℤ → Type 0
@@ -31,9 +31,6 @@ InRange z = unsigned_abs z ≤ 32000000000000000
 grains_range : (vat : ℕ) (v : ℤ) → VatRange vat → unsigned_abs v ≤ 80000000000000 → InRange (grains vat v)
 grains_range vat v h l = let k : 100 + vat ≤ 199 = omega arith in omega (arith, abs_times v (100 + vat) 80000000000000 199 l k)
 
-grains_zero : (vat : ℕ) → grains vat (pos 0) ≡ pos 0
-grains_zero vat = omega (arith, ints, zero-mul (100 + vat))
-
 min_under : (z : ℤ) → (int_min (pos 0) z ≤ℤ pos 0) × (int_min (pos 0) z ≤ℤ z)
 min_under z = (omega (arith, ints, clamps), omega (arith, ints, clamps))
 
@@ -41,9 +38,6 @@ min_one : (a b : ℤ) → (int_min a b ≡ a) ⊎ (int_min a b ≡ b)
 min_one a b = by_lt_z b a (λ l. inr (omega (arith, ints, clamps))) (λ l. inl (omega (arith, ints, clamps)))
 
 -- MI-XBID
-
-net_0 : (a : Amounts) → net (pos 0) a ≡ a.earned -ℤ a.paid
-net_0 a = omega (arith, ints, zero-mul a.sold, zero-mul a.bought)
 
 all_allowed : (orders : List Order) (outcome : Outcome) → Possible orders outcome → Along (λ o fill. true ≡ false → fill ≡ []) orders outcome
 all_allowed [] [] h = tt
@@ -56,11 +50,11 @@ xbid_least vat a orders outcome h =
     let l : net (pos 0) (at_limits losing a orders) ≤ℤ net (pos 0) (after a orders outcome) =
     none_worse (pos 0) (λ side. true) (λ o. o.limit) (λ o. omega (arith, ints)) a a orders outcome h (all_allowed orders outcome h) (≤ℤ_refl (net (pos 0) a)) in
     times_mono (100 + vat) ((at_limits losing a orders).earned -ℤ (at_limits losing a orders).paid) ((after a orders outcome).earned -ℤ (after a orders outcome).paid)
-    (omega (arith, ints, l, net_0 (at_limits losing a orders), net_0 (after a orders outcome)))
+    (omega (arith, ints, l))
 
 xbid_sound : Sound xbid_valuation
 xbid_sound = record {
-  nothing_is_worth_0 = λ vat v. grains_zero vat;
+  nothing_is_worth_0 = λ vat v. omega (arith, ints);
   worth_in_range = λ vat a v h. grains_range vat (a.earned -ℤ a.paid) v (omega (arith, ints, h.energy, h.paid, h.earned));
   some_counted = λ a orders h. (at_limit_outcome losing orders, (possible losing orders h.limits, tt));
   at_most_0 = λ vat a orders v h. (min_under (xbid_worth vat (at_limits losing a orders))).0;
@@ -143,7 +137,7 @@ module _ (check : ℤ) where
   mpeg_sound : PriceRange check → Sound (mpeg_valuation check)
   unfolding filled_on
   mpeg_sound l = record {
-    nothing_is_worth_0 = λ vat v. let e : net check nothing_traded ≡ pos 0 = omega (arith, ints, times_zero check) in ap (grains vat) e ∙ grains_zero vat;
+    nothing_is_worth_0 = λ vat v. let e : net check nothing_traded ≡ pos 0 = omega (arith, ints) in omega (arith, ints, ap (grains vat) e);
     worth_in_range = λ vat a v h. grains_range vat (net check a) v (net_range l a h);
     some_counted = λ a orders h. (at_limit_outcome (losing_purchase check) orders, (possible (losing_purchase check) orders h.limits, inl (at_limits_unfilled Buy orders)));
     at_most_0 = λ vat a orders v h. (min_under (int_min (filled_on vat a orders Buy) (filled_on vat a orders Sell))).0;
@@ -175,25 +169,22 @@ all_whole : (orders : List Order) → FilledWhole orders (at_limit_outcome every
 all_whole [] = tt
 all_whole (o ∷ orders) = (length-replicate o.kwh o.limit, all_whole orders)
 
+cct_range : (estimate : ℤ) → PriceRange estimate → cct estimate ≤ 400000
+cct_range (pos n) h = h
+cct_range (negsuc n) h = omega arith
+
 module _ (estimate : ℤ) where
   same_worth : (vat : ℕ) (a : Amounts) (orders : List Order) (outcome : Outcome) → FilledWhole orders outcome → pce_worth estimate vat (after a orders outcome) ≡ pce_worth estimate vat (at_limits every a orders)
   same_worth vat a orders outcome h =
       let t : ((after a orders outcome).bought ≡ (at_limits every a orders).bought) × ((after a orders outcome).sold ≡ (at_limits every a orders).sold) = same_energy a a orders outcome h refl refl in
       ap₂ (λ b s. grains vat (neg_ℤ (pos (unsigned_abs (pos s -ℤ pos b) * cct estimate)))) t.0 t.1
 
-  cct_range : PriceRange estimate → cct estimate ≤ 400000
-  cct_range h = go estimate h
-    where
-      go : (z : ℤ) → PriceRange z → cct z ≤ 400000
-      go (pos n) h = h
-      go (negsuc n) h = omega arith
-
   pce_sound : PriceRange estimate → Sound (pce_valuation estimate)
   pce_sound l = record {
-    nothing_is_worth_0 = λ vat v. ap (λ n. grains vat (neg_ℤ (pos n))) (zero-mul (cct estimate)) ∙ grains_zero vat;
+    nothing_is_worth_0 = λ vat v. omega (arith, ints, ap (λ n. grains vat (neg_ℤ (pos n))) (zero-mul (cct estimate)));
     worth_in_range = λ vat a v h.
         let few : imbalance a ≤ 100000000 = omega (arith, ints, h.energy) in
-        grains_range vat (neg_ℤ (pos (imbalance a * cct estimate))) v (omega (arith, ints, mul-le-mul few (cct_range l)));
+        grains_range vat (neg_ℤ (pos (imbalance a * cct estimate))) v (omega (arith, ints, mul-le-mul few (cct_range estimate l)));
     some_counted = λ a orders h. (at_limit_outcome every orders, (possible every orders h.limits, all_whole orders));
     at_most_0 = λ vat a orders v h. owed (imbalance (at_limits every a orders) * cct estimate) (100 + vat);
     none_below = λ vat a orders v h outcome w. subst (λ (z : ℤ). pce_worth estimate vat (at_limits every a orders) ≤ℤ z) (sym (same_worth vat a orders outcome w.1)) (≤ℤ_refl (pce_worth estimate vat (at_limits every a orders)));
@@ -201,7 +192,7 @@ module _ (estimate : ℤ) where
   }
     where
       owed : (m k : ℕ) → (neg_ℤ (pos m) *ℤ pos k) ≤ℤ pos 0
-      owed m k = let l : (neg_ℤ (pos m)) ≤ℤ pos 0 = omega (arith, ints) in omega (arith, ints, times_mono k (neg_ℤ (pos m)) (pos 0) l, zero-mul k)
+      owed m k = omega (arith, ints, times_mono k (neg_ℤ (pos m)) (pos 0) (omega (arith, ints)))
 
 pub pce_lawful : Lawful pce
 pce_lawful = record { sound = λ rule. pce_sound rule.reference.cents rule.reference.ranged; reads_back = λ rule price. refl; last_counts = λ rule first last. refl; same_again = λ rule. refl }

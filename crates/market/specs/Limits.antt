@@ -1,5 +1,5 @@
 -- The amounts of a cell with some of its open orders filled whole, each at its limit.
-use Rattle.std.specs.Prelude.{Bool, true, false, cond, ◌&&◌, List, [], ◌∷◌, ℤ, pos, ◌+ℤ◌, ◌*ℤ◌, int_lt}
+use Rattle.std.specs.Prelude.{◌≡◌, Bool, true, false, cond, ◌&&◌, List, [], ◌∷◌, ℤ, pos, ◌+ℤ◌, ◌*ℤ◌, int_lt}
 use Rattle.market.specs.declared.orders.Side.{Side}
 use Rattle.market.specs.declared.orders.Side.TheVariants.{Buy, Sell}
 use Rattle.market.specs.declared.orders.Order.{Order}
@@ -34,6 +34,10 @@ losing_purchase = losing_on Buy
 
 abbrev pub losing_sale : ℤ → Order → Bool
 losing_sale = losing_on Sell
+
+-- a test that gives such answers takes the orders that are chosen
+abbrev pub Takes : (Order → Bool → Type 0) → (Order → Bool) → Type 0
+Takes gives chosen = (order : Order) (answer : Bool) → gives order answer → answer ≡ chosen order
 
 -- the amounts with the order filled whole at its limit, if it is chosen
 abbrev pub at_limit : (Order → Bool) → Order → Amounts → Amounts

@@ -2,7 +2,7 @@
 ghost use Rattle.std.specs.Prelude.{◌≡◌, Bool};
 ghost use Rattle.std.specs.Fn.{FnReturnsAt};
 ghost use Rattle.market.specs.declared.orders.Order.{Order};
-ghost use Rattle.market.specs.Limits.{loses, at_limits};
+ghost use Rattle.market.specs.Limits.{loses, Takes, at_limits};
 ghost use Rattle.market.specs.Cells.{its_orders};
 
 use crate::{Figures, OpenCell, Order, Price, Proposal, Side};
@@ -24,7 +24,7 @@ pub(crate) fn filled_at_limits<D, F: Fn(&Order) -> bool>(
     is_chosen: F,
 ) -> Figures
     requires may_be_asked { F.IsAlwaysCallable is_chosen }
-    ensures are_filled { (chosen : Order → Bool) → ((order : Order) (answer : Bool) → FnReturnsAt F.Fn is_chosen order answer → answer ≡ chosen order) → result.amounts ≡ at_limits chosen cell.now.figures.amounts (its_orders cell.now) }
+    ensures are_filled { (chosen : Order → Bool) → Takes (FnReturnsAt F.Fn is_chosen) chosen → result.amounts ≡ at_limits chosen cell.now.figures.amounts (its_orders cell.now) }
 {
     let mut figures = cell.figures;
     for Proposal { order, .. } in cell.proposals {

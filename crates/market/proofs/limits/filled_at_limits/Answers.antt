@@ -2,8 +2,7 @@ use Rattle.std.proofs.Common.{true, false, refl, sym, ap, ◌∙◌, arith}
 use borrow.Author.Differences.{ints}
 use Rattle.std.proofs.lemmas.Fn.{says_at}
 use Rattle.market.specs.declared.figures.Figures.{Figures}
-use Rattle.market.proofs.Filling.{limits_hold}
-use Rattle.market.proofs.Open.{taken, passed, filled, kept}
+use Rattle.market.proofs.Open.{taken, passed, filled, kept, limits_hold}
 use Rattle.market.proofs.limits.filled_at_limits.Goals as goal
 use Rattle.market.proofs.limits.filled_at_limits.Goals.{then-is_open_in+then-is_chosen, else-is_open_in, else-is_open_in-via-then-is_open_in+else-is_chosen, else-is_open_in-via-else-is_open_in}
 
