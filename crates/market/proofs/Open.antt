@@ -1,5 +1,5 @@
 -- The loops over the open orders of a cell.
-use Rattle.std.proofs.Common.{◌≡◌, ℕ, ◌+◌, ◌<◌, ◌≤◌, Bool, true, false, cond, List, [], ◌∷◌, length, get_or, drop, ℤ, pos, ◌*ℤ◌, sym, ap, ap₂, ◌∙◌, subst, arith}
+use Rattle.std.proofs.Common.{◌≡◌, ℕ, ◌+◌, ◌<◌, ◌≤◌, Bool, true, false, cond, List, ◌∷◌, length, get_or, drop, ℤ, pos, ◌*ℤ◌, sym, ap, ap₂, ◌∙◌, subst, arith}
 use Rattle.std.specs.List.{AllByRecursion}
 use Rattle.std.proofs.ByRecursion.{All-from_get_or}
 use Rattle.std.proofs.lemmas.List.{drop_more}
@@ -13,7 +13,7 @@ use Rattle.market.specs.Units.{PriceRange}
 use Rattle.market.specs.Orders.{belongs, open_among, open_energy, no_order}
 use Rattle.market.specs.Cells.{its_orders}
 use Rattle.market.specs.Outcomes.{traded}
-use Rattle.market.specs.Limits.{at_limit, at_limits}
+use Rattle.market.specs.Limits.{at_limits}
 
 -- the orders that are left at a row of the table, where that row's order belongs to the cell or not
 module _ {D : Type 0} (participant day : ℕ) (rows : List (Proposal D)) (i : ℕ) {row : Proposal D} (e : row ≡ get_or rows i row) (h : i < length rows) where

@@ -1,5 +1,5 @@
 -- The three market rules keep the laws of a market rule.
-use Rattle.std.specs.Prelude.{◌≡◌, ℕ, ◌+◌, ◌*◌, ◌≤◌, Bool, true, false, cond, ◌&&◌, ◌⊎◌, List, [], ◌∷◌, length, replicate, ℤ, pos, negsuc, ◌+ℤ◌, ◌-ℤ◌, ◌*ℤ◌, neg_ℤ, ◌≤ℤ◌, unsigned_abs, refl}
+use Rattle.std.specs.Prelude.{◌≡◌, ℕ, ◌+◌, ◌*◌, ◌≤◌, true, false, cond, ◌&&◌, ◌⊎◌, List, [], ◌∷◌, length, replicate, ℤ, pos, negsuc, ◌+ℤ◌, ◌-ℤ◌, ◌*ℤ◌, neg_ℤ, ◌≤ℤ◌, unsigned_abs, refl}
 use Rattle.std.proofs.Math.Path.{sym, ap}
 use Rattle.std.proofs.Common.{ap₂, subst, ◌∙◌, arith, mul-le-mul, zero-mul, le_refl}
 use Rattle.std.proofs.Math.Logic.{inl, inr}
@@ -18,7 +18,7 @@ use Rattle.market.specs.declared.any.Market.{Market}
 use Rattle.market.specs.declared.any.Market.TheVariants.{Xbid, Mpeg, Pce}
 use Rattle.market.specs.Units.{PriceRange, VatRange, grains}
 use Rattle.market.specs.Orders.{WithinLimits}
-use Rattle.market.specs.Outcomes.{Outcome, Along, Possible, traded, value, after, nothing_traded}
+use Rattle.market.specs.Outcomes.{Fill, Outcome, Along, Possible, traded, value, after, nothing_traded}
 use Rattle.market.specs.Limits.{loses, is_on, every, losing, losing_on, losing_purchase, at_limit, at_limits}
 use Rattle.market.specs.Rule.{Sound, Lawful}
 use Rattle.market.specs.Rules.{xbid_worth, xbid_valuation, mpeg_worth, Unfilled, mpeg_valuation, cct, imbalance, pce_worth, FilledWhole, pce_valuation, xbid, mpeg, pce, any}
@@ -37,13 +37,16 @@ min_under z = (omega (arith, ints, clamps), omega (arith, ints, clamps))
 min_one : (a b : ℤ) → (int_min a b ≡ a) ⊎ (int_min a b ≡ b)
 min_one a b = by_lt_z b a (λ l. inr (omega (arith, ints, clamps))) (λ l. inl (omega (arith, ints, clamps)))
 
+Along-weaker : {R S : Order → Fill → Type 0} → ((o : Order) (fill : Fill) → R o fill → S o fill) → (orders : List Order) (outcome : Outcome) → Along R orders outcome → Along S orders outcome
+Along-weaker f [] [] h = tt
+Along-weaker f [] (fill ∷ outcome) h = absurd h
+Along-weaker f (o ∷ orders) [] h = absurd h
+Along-weaker f (o ∷ orders) (fill ∷ outcome) h = (f o fill h.0, Along-weaker f orders outcome h.1)
+
 -- MI-XBID
 
 all_allowed : (orders : List Order) (outcome : Outcome) → Possible orders outcome → Along (λ o fill. true ≡ false → fill ≡ []) orders outcome
-all_allowed [] [] h = tt
-all_allowed [] (fill ∷ outcome) h = absurd h
-all_allowed (o ∷ orders) [] h = absurd h
-all_allowed (o ∷ orders) (fill ∷ outcome) h = ((λ e. cc), all_allowed orders outcome h.1)
+all_allowed = Along-weaker (λ o fill f e. cc)
 
 xbid_least : (vat : ℕ) (a : Amounts) (orders : List Order) (outcome : Outcome) → Possible orders outcome → xbid_worth vat (at_limits losing a orders) ≤ℤ xbid_worth vat (after a orders outcome)
 xbid_least vat a orders outcome h =
@@ -87,10 +90,7 @@ on_opposite Sell s e = ap (is_on Sell) e
 
 -- the fills of an outcome that leaves the other side unfilled are those of the side
 unfilled_allowed : (side : Side) (orders : List Order) (outcome : Outcome) → Unfilled (opposite side) orders outcome → Along (λ o fill. is_on side o.side ≡ false → fill ≡ []) orders outcome
-unfilled_allowed side [] [] h = tt
-unfilled_allowed side [] (fill ∷ outcome) h = absurd h
-unfilled_allowed side (o ∷ orders) [] h = absurd h
-unfilled_allowed side (o ∷ orders) (fill ∷ outcome) h = ((λ e. h.0 (not_on side o.side e)), unfilled_allowed side orders outcome h.1)
+unfilled_allowed side = Along-weaker (λ o fill unfilled e. unfilled (not_on side o.side e))
 
 module _ (check : ℤ) where
   -- with the losing orders of one side filled at their limits, the other side is unfilled

@@ -1,5 +1,5 @@
 -- Products of a signed number with a natural one.
-use Rattle.std.specs.Prelude.{◌≡◌, ℕ, zero, suc, ◌+◌, ◌*◌, ◌≤◌, ℤ, pos, negsuc, ◌+ℤ◌, ◌*ℤ◌, ◌≤ℤ◌, unsigned_abs}
+use Rattle.std.specs.Prelude.{◌≡◌, ℕ, zero, suc, ◌+◌, ◌*◌, ◌≤◌, ℤ, pos, ◌+ℤ◌, ◌*ℤ◌, ◌≤ℤ◌, unsigned_abs}
 use Rattle.std.proofs.Common.{arith, mul-suc, mul-add, mul-le-mul}
 use borrow.Author.Differences.{ints, up, down}
 use Rattle.std.proofs.lemmas.Int.{unsigned_abs-mul}
