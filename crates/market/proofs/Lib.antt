@@ -1,4 +1,3 @@
-pub mod Fits
-pub mod Filling
-pub mod Rooms
+pub mod Lists
+pub mod Open
 pub mod Range

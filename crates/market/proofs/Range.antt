@@ -15,7 +15,7 @@ use Rattle.market.specs.Orders.{orders_of, belongs, WithinLimits}
 use Rattle.market.specs.Cells.{its_orders}
 use Rattle.market.specs.Outcomes.{Fill, value, Fills, Outcome, Possible, traded, after}
 use Rattle.market.specs.Rule.{Valuation, Sound}
-use Rattle.market.proofs.Filling.{limits_hold}
+use Rattle.market.proofs.Open.{limits_hold}
 
 belongs_open : (participant day : ℕ) (o : Order) → belongs participant day o ≡ true → 0 < o.kwh
 belongs_open participant day o h = grind (arith, nat_tests)

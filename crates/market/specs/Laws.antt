@@ -1,5 +1,5 @@
 -- The three market rules keep the laws of a market rule.
-use Rattle.std.specs.Prelude.{◌≡◌, ℕ, ◌+◌, ◌*◌, ◌≤◌, Bool, true, false, cond, ◌&&◌, ◌⊎◌, List, [], ◌∷◌, length, replicate, ℤ, pos, negsuc, ◌+ℤ◌, ◌-ℤ◌, ◌*ℤ◌, neg_ℤ, ◌≤ℤ◌, unsigned_abs, refl}
+use Rattle.std.specs.Prelude.{◌≡◌, ℕ, ◌+◌, ◌*◌, ◌≤◌, true, false, cond, ◌&&◌, ◌⊎◌, List, [], ◌∷◌, length, replicate, ℤ, pos, negsuc, ◌+ℤ◌, ◌-ℤ◌, ◌*ℤ◌, neg_ℤ, ◌≤ℤ◌, unsigned_abs, refl}
 use Rattle.std.proofs.Math.Path.{sym, ap}
 use Rattle.std.proofs.Common.{ap₂, subst, ◌∙◌, arith, mul-le-mul, zero-mul, le_refl}
 use Rattle.std.proofs.Math.Logic.{inl, inr}
@@ -18,11 +18,11 @@ use Rattle.market.specs.declared.any.Market.{Market}
 use Rattle.market.specs.declared.any.Market.TheVariants.{Xbid, Mpeg, Pce}
 use Rattle.market.specs.Units.{PriceRange, VatRange, grains}
 use Rattle.market.specs.Orders.{WithinLimits}
-use Rattle.market.specs.Outcomes.{Outcome, Along, Possible, traded, value, after, nothing_traded}
-use Rattle.market.specs.Limits.{loses, buys, sells, every, losing, losing_purchase, losing_sale, at_limit, at_limits}
+use Rattle.market.specs.Outcomes.{Fill, Outcome, Along, Possible, traded, value, after, nothing_traded}
+use Rattle.market.specs.Limits.{loses, is_on, every, losing, losing_on, losing_purchase, at_limit, at_limits}
 use Rattle.market.specs.Rule.{Sound, Lawful}
 use Rattle.market.specs.Rules.{xbid_worth, xbid_valuation, mpeg_worth, Unfilled, mpeg_valuation, cct, imbalance, pce_worth, FilledWhole, pce_valuation, xbid, mpeg, pce, any}
-use Rattle.market.specs.Products.{times_zero, times_mono, abs_times}
+use Rattle.market.specs.Products.{times_mono, abs_times}
 use Rattle.market.specs.Worst.{net, none_worse, at_limit_outcome, possible, after_at_limits}
 
 abbrev InRange : ℤ → Type 0
@@ -31,36 +31,33 @@ InRange z = unsigned_abs z ≤ 32000000000000000
 grains_range : (vat : ℕ) (v : ℤ) → VatRange vat → unsigned_abs v ≤ 80000000000000 → InRange (grains vat v)
 grains_range vat v h l = let k : 100 + vat ≤ 199 = omega arith in omega (arith, abs_times v (100 + vat) 80000000000000 199 l k)
 
-grains_zero : (vat : ℕ) → grains vat (pos 0) ≡ pos 0
-grains_zero vat = omega (arith, ints, zero-mul (100 + vat))
-
 min_under : (z : ℤ) → (int_min (pos 0) z ≤ℤ pos 0) × (int_min (pos 0) z ≤ℤ z)
 min_under z = (omega (arith, ints, clamps), omega (arith, ints, clamps))
 
 min_one : (a b : ℤ) → (int_min a b ≡ a) ⊎ (int_min a b ≡ b)
 min_one a b = by_lt_z b a (λ l. inr (omega (arith, ints, clamps))) (λ l. inl (omega (arith, ints, clamps)))
 
+Along-weaker : {R S : Order → Fill → Type 0} → ((o : Order) (fill : Fill) → R o fill → S o fill) → (orders : List Order) (outcome : Outcome) → Along R orders outcome → Along S orders outcome
+Along-weaker f [] [] h = tt
+Along-weaker f [] (fill ∷ outcome) h = absurd h
+Along-weaker f (o ∷ orders) [] h = absurd h
+Along-weaker f (o ∷ orders) (fill ∷ outcome) h = (f o fill h.0, Along-weaker f orders outcome h.1)
+
 -- MI-XBID
 
-net_0 : (a : Amounts) → net (pos 0) a ≡ a.earned -ℤ a.paid
-net_0 a = omega (arith, ints, zero-mul a.sold, zero-mul a.bought)
-
 all_allowed : (orders : List Order) (outcome : Outcome) → Possible orders outcome → Along (λ o fill. true ≡ false → fill ≡ []) orders outcome
-all_allowed [] [] h = tt
-all_allowed [] (fill ∷ outcome) h = absurd h
-all_allowed (o ∷ orders) [] h = absurd h
-all_allowed (o ∷ orders) (fill ∷ outcome) h = ((λ e. cc), all_allowed orders outcome h.1)
+all_allowed = Along-weaker (λ o fill f e. cc)
 
 xbid_least : (vat : ℕ) (a : Amounts) (orders : List Order) (outcome : Outcome) → Possible orders outcome → xbid_worth vat (at_limits losing a orders) ≤ℤ xbid_worth vat (after a orders outcome)
 xbid_least vat a orders outcome h =
     let l : net (pos 0) (at_limits losing a orders) ≤ℤ net (pos 0) (after a orders outcome) =
     none_worse (pos 0) (λ side. true) (λ o. o.limit) (λ o. omega (arith, ints)) a a orders outcome h (all_allowed orders outcome h) (≤ℤ_refl (net (pos 0) a)) in
     times_mono (100 + vat) ((at_limits losing a orders).earned -ℤ (at_limits losing a orders).paid) ((after a orders outcome).earned -ℤ (after a orders outcome).paid)
-    (omega (arith, ints, l, net_0 (at_limits losing a orders), net_0 (after a orders outcome)))
+    (omega (arith, ints, l))
 
 xbid_sound : Sound xbid_valuation
 xbid_sound = record {
-  nothing_is_worth_0 = λ vat v. grains_zero vat;
+  nothing_is_worth_0 = λ vat v. omega (arith, ints);
   worth_in_range = λ vat a v h. grains_range vat (a.earned -ℤ a.paid) v (omega (arith, ints, h.energy, h.paid, h.earned));
   some_counted = λ a orders h. (at_limit_outcome losing orders, (possible losing orders h.limits, tt));
   at_most_0 = λ vat a orders v h. (min_under (xbid_worth vat (at_limits losing a orders))).0;
@@ -77,93 +74,73 @@ xbid_lawful = record { sound = λ rule. xbid_sound; reads_back = λ rule price. 
 
 -- MPEG
 
--- the fills of an outcome that leaves a side unfilled are those of the other side
-unfilled_allowed : (side : Side) (p : Side → Bool) → ((s : Side) → p s ≡ false → s ≡ side) → (orders : List Order) (outcome : Outcome) → Unfilled side orders outcome →
-    Along (λ o fill. p o.side ≡ false → fill ≡ []) orders outcome
-unfilled_allowed side p f [] [] h = tt
-unfilled_allowed side p f [] (fill ∷ outcome) h = absurd h
-unfilled_allowed side p f (o ∷ orders) [] h = absurd h
-unfilled_allowed side p f (o ∷ orders) (fill ∷ outcome) h = ((λ e. h.0 (f o.side e)), unfilled_allowed side p f orders outcome h.1)
+abbrev opposite : Side → Side
+opposite Buy = Sell
+opposite Sell = Buy
 
--- where no order of a side is chosen, the outcome at the limits leaves that side unfilled
-at_limits_unfilled : (side : Side) (chosen : Order → Bool) → ((o : Order) → o.side ≡ side → chosen o ≡ false) → (orders : List Order) → Unfilled side orders (at_limit_outcome chosen orders)
-at_limits_unfilled side chosen f [] = tt
-at_limits_unfilled side chosen f (o ∷ orders) = ((λ e. ap (λ t. cond t (replicate o.kwh o.limit) []) (f o e)), at_limits_unfilled side chosen f orders)
+not_on : (side s : Side) → is_on side s ≡ false → s ≡ opposite side
+not_on Buy Buy e = cc
+not_on Buy Sell e = refl
+not_on Sell Buy e = refl
+not_on Sell Sell e = cc
 
-not_buys : (s : Side) → buys s ≡ false → s ≡ Sell
-not_buys Buy e = cc
-not_buys Sell e = refl
+on_opposite : (side s : Side) → s ≡ opposite side → is_on side s ≡ false
+on_opposite Buy s e = ap (is_on Buy) e
+on_opposite Sell s e = ap (is_on Sell) e
 
-not_sells : (s : Side) → sells s ≡ false → s ≡ Buy
-not_sells Buy e = refl
-not_sells Sell e = cc
+-- the fills of an outcome that leaves the other side unfilled are those of the side
+unfilled_allowed : (side : Side) (orders : List Order) (outcome : Outcome) → Unfilled (opposite side) orders outcome → Along (λ o fill. is_on side o.side ≡ false → fill ≡ []) orders outcome
+unfilled_allowed side = Along-weaker (λ o fill unfilled e. unfilled (not_on side o.side e))
 
 module _ (check : ℤ) where
-  no_sale : (o : Order) → o.side ≡ Sell → losing_purchase check o ≡ false
-  no_sale o e = ap (λ s. buys s && loses s (o.limit +ℤ check)) e
-
-  no_purchase : (o : Order) → o.side ≡ Buy → losing_sale check o ≡ false
-  no_purchase o e = ap (λ s. sells s && loses s (o.limit +ℤ check)) e
-
-  -- the worth with the losing purchases, and with the losing sales
-  with_purchases : ℕ → Amounts → List Order → ℤ
-  with_purchases vat a orders = mpeg_worth check vat (at_limits (losing_purchase check) a orders)
-
-  with_sales : ℕ → Amounts → List Order → ℤ
-  with_sales vat a orders = mpeg_worth check vat (at_limits (losing_sale check) a orders)
+  -- with the losing orders of one side filled at their limits, the other side is unfilled
+  at_limits_unfilled : (side : Side) (orders : List Order) → Unfilled (opposite side) orders (at_limit_outcome (losing_on side check) orders)
+  at_limits_unfilled side [] = tt
+  at_limits_unfilled side (o ∷ orders) = ((λ e. ap (λ t. cond (t && loses o.side (o.limit +ℤ check)) (replicate o.kwh o.limit) []) (on_opposite side o.side e)), at_limits_unfilled side orders)
 
   module _ (vat : ℕ) (a : Amounts) (orders : List Order) where
-    purchases_least : (outcome : Outcome) → Possible orders outcome → Unfilled Sell orders outcome → with_purchases vat a orders ≤ℤ mpeg_worth check vat (after a orders outcome)
-    unfolding with_purchases
-    purchases_least outcome h w =
-        times_mono (100 + vat) (net check (at_limits (losing_purchase check) a orders)) (net check (after a orders outcome))
-        (none_worse check buys (λ o. o.limit +ℤ check) (λ o. refl) a a orders outcome h (unfilled_allowed Sell buys not_buys orders outcome w) (≤ℤ_refl (net check a)))
+    -- the worth with the losing orders of a side
+    filled_on : Side → ℤ
+    filled_on side = mpeg_worth check vat (at_limits (losing_on side check) a orders)
 
-    sales_least : (outcome : Outcome) → Possible orders outcome → Unfilled Buy orders outcome → with_sales vat a orders ≤ℤ mpeg_worth check vat (after a orders outcome)
-    unfolding with_sales
-    sales_least outcome h w =
-        times_mono (100 + vat) (net check (at_limits (losing_sale check) a orders)) (net check (after a orders outcome))
-        (none_worse check sells (λ o. o.limit +ℤ check) (λ o. refl) a a orders outcome h (unfilled_allowed Buy sells not_sells orders outcome w) (≤ℤ_refl (net check a)))
+    side_least : (side : Side) (outcome : Outcome) → Possible orders outcome → Unfilled (opposite side) orders outcome → filled_on side ≤ℤ mpeg_worth check vat (after a orders outcome)
+    unfolding filled_on
+    side_least side outcome h w =
+        times_mono (100 + vat) (net check (at_limits (losing_on side check) a orders)) (net check (after a orders outcome))
+        (none_worse check (is_on side) (λ o. o.limit +ℤ check) (λ o. refl) a a orders outcome h (unfilled_allowed side orders outcome w) (≤ℤ_refl (net check a)))
 
     abbrev least : ℤ
-    least = int_min (pos 0) (int_min (with_purchases vat a orders) (with_sales vat a orders))
+    least = int_min (pos 0) (int_min (filled_on Buy) (filled_on Sell))
 
     mpeg_least : (outcome : Outcome) → Possible orders outcome → Unfilled Sell orders outcome ⊎ Unfilled Buy orders outcome → least ≤ℤ mpeg_worth check vat (after a orders outcome)
-    mpeg_least outcome h (inl w) = omega (arith, ints, clamps, purchases_least outcome h w)
-    mpeg_least outcome h (inr w) = omega (arith, ints, clamps, sales_least outcome h w)
+    mpeg_least outcome h (inl w) = omega (arith, ints, clamps, side_least Buy outcome h w)
+    mpeg_least outcome h (inr w) = omega (arith, ints, clamps, side_least Sell outcome h w)
 
     abbrev Reached : Type 0
     Reached = (outcome : Outcome) × (Possible orders outcome × (Unfilled Sell orders outcome ⊎ Unfilled Buy orders outcome)) × (mpeg_worth check vat (after a orders outcome) ≡ least)
 
     mpeg_reached : AllByRecursion (λ o. PriceRange o.limit) orders → (least ≡ pos 0) ⊎ Reached
-    unfolding with_purchases with_sales
-    mpeg_reached h = go (min_one (pos 0) (int_min (with_purchases vat a orders) (with_sales vat a orders))) (min_one (with_purchases vat a orders) (with_sales vat a orders))
+    unfolding filled_on
+    mpeg_reached h =
+        elim (min_one (pos 0) (int_min (filled_on Buy) (filled_on Sell))) [
+          | inl z ↦ inl z
+          | inr z ↦ elim (min_one (filled_on Buy) (filled_on Sell)) [ inl w ↦ by Buy (z ∙ w) (inl (at_limits_unfilled Buy orders)) | inr w ↦ by Sell (z ∙ w) (inr (at_limits_unfilled Sell orders)) ]
+        ]
       where
-        go : (least ≡ pos 0) ⊎ (least ≡ int_min (with_purchases vat a orders) (with_sales vat a orders)) →
-            (int_min (with_purchases vat a orders) (with_sales vat a orders) ≡ with_purchases vat a orders) ⊎ (int_min (with_purchases vat a orders) (with_sales vat a orders) ≡ with_sales vat a orders) →
-            (least ≡ pos 0) ⊎ Reached
-        go (inl z) w = inl z
-        go (inr z) (inl w) = inr (
-          at_limit_outcome (losing_purchase check) orders,
-          (possible (losing_purchase check) orders h, inl (at_limits_unfilled Sell (losing_purchase check) no_sale orders)),
-          ap (mpeg_worth check vat) (after_at_limits (losing_purchase check) a orders) ∙ sym (z ∙ w),
-        )
-        go (inr z) (inr w) = inr (
-          at_limit_outcome (losing_sale check) orders,
-          (possible (losing_sale check) orders h, inr (at_limits_unfilled Buy (losing_sale check) no_purchase orders)),
-          ap (mpeg_worth check vat) (after_at_limits (losing_sale check) a orders) ∙ sym (z ∙ w),
-        )
+        by : (side : Side) → least ≡ filled_on side →
+            Unfilled Sell orders (at_limit_outcome (losing_on side check) orders) ⊎ Unfilled Buy orders (at_limit_outcome (losing_on side check) orders) → (least ≡ pos 0) ⊎ Reached
+        by side e w = inr (at_limit_outcome (losing_on side check) orders, (possible (losing_on side check) orders h, w), ap (mpeg_worth check vat) (after_at_limits (losing_on side check) a orders) ∙ sym e)
 
   net_range : PriceRange check → (a : Amounts) → WithinLimits a [] → unsigned_abs (net check a) ≤ 80000000000000
   net_range l a h = omega (arith, ints, h.energy, h.paid, h.earned, abs_times check a.sold 400000 a.sold l (le_refl a.sold), abs_times check a.bought 400000 a.bought l (le_refl a.bought))
 
   mpeg_sound : PriceRange check → Sound (mpeg_valuation check)
-  unfolding with_purchases with_sales
+  unfolding filled_on
   mpeg_sound l = record {
-    nothing_is_worth_0 = λ vat v. let e : net check nothing_traded ≡ pos 0 = omega (arith, ints, times_zero check) in ap (grains vat) e ∙ grains_zero vat;
+    nothing_is_worth_0 = λ vat v. let e : net check nothing_traded ≡ pos 0 = omega (arith, ints) in omega (arith, ints, ap (grains vat) e);
     worth_in_range = λ vat a v h. grains_range vat (net check a) v (net_range l a h);
-    some_counted = λ a orders h. (at_limit_outcome (losing_purchase check) orders, (possible (losing_purchase check) orders h.limits, inl (at_limits_unfilled Sell (losing_purchase check) no_sale orders)));
-    at_most_0 = λ vat a orders v h. (min_under (int_min (with_purchases vat a orders) (with_sales vat a orders))).0;
+    some_counted = λ a orders h. (at_limit_outcome (losing_purchase check) orders, (possible (losing_purchase check) orders h.limits, inl (at_limits_unfilled Buy orders)));
+    at_most_0 = λ vat a orders v h. (min_under (int_min (filled_on vat a orders Buy) (filled_on vat a orders Sell))).0;
     none_below = λ vat a orders v h outcome w. mpeg_least vat a orders outcome w.0 w.1;
     reached = λ vat a orders v h. mpeg_reached vat a orders h.limits;
   }
@@ -192,25 +169,22 @@ all_whole : (orders : List Order) → FilledWhole orders (at_limit_outcome every
 all_whole [] = tt
 all_whole (o ∷ orders) = (length-replicate o.kwh o.limit, all_whole orders)
 
+cct_range : (estimate : ℤ) → PriceRange estimate → cct estimate ≤ 400000
+cct_range (pos n) h = h
+cct_range (negsuc n) h = omega arith
+
 module _ (estimate : ℤ) where
   same_worth : (vat : ℕ) (a : Amounts) (orders : List Order) (outcome : Outcome) → FilledWhole orders outcome → pce_worth estimate vat (after a orders outcome) ≡ pce_worth estimate vat (at_limits every a orders)
   same_worth vat a orders outcome h =
       let t : ((after a orders outcome).bought ≡ (at_limits every a orders).bought) × ((after a orders outcome).sold ≡ (at_limits every a orders).sold) = same_energy a a orders outcome h refl refl in
       ap₂ (λ b s. grains vat (neg_ℤ (pos (unsigned_abs (pos s -ℤ pos b) * cct estimate)))) t.0 t.1
 
-  cct_range : PriceRange estimate → cct estimate ≤ 400000
-  cct_range h = go estimate h
-    where
-      go : (z : ℤ) → PriceRange z → cct z ≤ 400000
-      go (pos n) h = h
-      go (negsuc n) h = omega arith
-
   pce_sound : PriceRange estimate → Sound (pce_valuation estimate)
   pce_sound l = record {
-    nothing_is_worth_0 = λ vat v. ap (λ n. grains vat (neg_ℤ (pos n))) (zero-mul (cct estimate)) ∙ grains_zero vat;
+    nothing_is_worth_0 = λ vat v. omega (arith, ints, ap (λ n. grains vat (neg_ℤ (pos n))) (zero-mul (cct estimate)));
     worth_in_range = λ vat a v h.
         let few : imbalance a ≤ 100000000 = omega (arith, ints, h.energy) in
-        grains_range vat (neg_ℤ (pos (imbalance a * cct estimate))) v (omega (arith, ints, mul-le-mul few (cct_range l)));
+        grains_range vat (neg_ℤ (pos (imbalance a * cct estimate))) v (omega (arith, ints, mul-le-mul few (cct_range estimate l)));
     some_counted = λ a orders h. (at_limit_outcome every orders, (possible every orders h.limits, all_whole orders));
     at_most_0 = λ vat a orders v h. owed (imbalance (at_limits every a orders) * cct estimate) (100 + vat);
     none_below = λ vat a orders v h outcome w. subst (λ (z : ℤ). pce_worth estimate vat (at_limits every a orders) ≤ℤ z) (sym (same_worth vat a orders outcome w.1)) (≤ℤ_refl (pce_worth estimate vat (at_limits every a orders)));
@@ -218,7 +192,7 @@ module _ (estimate : ℤ) where
   }
     where
       owed : (m k : ℕ) → (neg_ℤ (pos m) *ℤ pos k) ≤ℤ pos 0
-      owed m k = let l : (neg_ℤ (pos m)) ≤ℤ pos 0 = omega (arith, ints) in omega (arith, ints, times_mono k (neg_ℤ (pos m)) (pos 0) l, zero-mul k)
+      owed m k = omega (arith, ints, times_mono k (neg_ℤ (pos m)) (pos 0) (omega (arith, ints)))
 
 pub pce_lawful : Lawful pce
 pce_lawful = record { sound = λ rule. pce_sound rule.reference.cents rule.reference.ranged; reads_back = λ rule price. refl; last_counts = λ rule first last. refl; same_again = λ rule. refl }

@@ -1,11 +1,9 @@
 -- The amounts of a cell with some of its open orders filled whole, each at its limit.
-use Rattle.std.specs.Prelude.{Bool, true, false, cond, ◌&&◌, List, [], ◌∷◌, ℤ, pos, ◌+ℤ◌, ◌*ℤ◌, int_lt}
+use Rattle.std.specs.Prelude.{◌≡◌, Bool, true, false, cond, ◌&&◌, List, [], ◌∷◌, ℤ, pos, ◌+ℤ◌, ◌*ℤ◌, int_lt}
 use Rattle.market.specs.declared.orders.Side.{Side}
 use Rattle.market.specs.declared.orders.Side.TheVariants.{Buy, Sell}
 use Rattle.market.specs.declared.orders.Order.{Order}
 use Rattle.market.specs.declared.figures.Amounts.{Amounts}
-use Rattle.market.specs.declared.limits.Selection.{Selection}
-use Rattle.market.specs.declared.limits.Selection.TheVariants.{All, Losing, LosingPurchases, LosingSales}
 use Rattle.market.specs.Outcomes.{traded}
 
 -- a purchase loses at a price above 0, a sale at one below 0
@@ -20,27 +18,26 @@ every o = true
 abbrev pub losing : Order → Bool
 losing o = loses o.side o.limit
 
-abbrev pub buys : Side → Bool
-buys Buy = true
-buys Sell = false
+-- whether the second side is the first
+abbrev pub is_on : Side → Side → Bool
+is_on Buy Buy = true
+is_on Buy Sell = false
+is_on Sell Buy = false
+is_on Sell Sell = true
 
-abbrev pub sells : Side → Bool
-sells Buy = false
-sells Sell = true
+-- the orders of a side that lose at their limit with the check price added
+abbrev pub losing_on : Side → ℤ → Order → Bool
+losing_on side check o = is_on side o.side && loses o.side (o.limit +ℤ check)
 
--- the purchases and the sales that lose at their limit with the check price added
 abbrev pub losing_purchase : ℤ → Order → Bool
-losing_purchase check o = buys o.side && loses o.side (o.limit +ℤ check)
+losing_purchase = losing_on Buy
 
 abbrev pub losing_sale : ℤ → Order → Bool
-losing_sale check o = sells o.side && loses o.side (o.limit +ℤ check)
+losing_sale = losing_on Sell
 
--- the orders that the code selects
-abbrev pub selects : Selection → Order → Bool
-selects All = every
-selects Losing = losing
-selects (LosingPurchases check) = losing_purchase check.cents
-selects (LosingSales check) = losing_sale check.cents
+-- a test that gives such answers takes the orders that are chosen
+abbrev pub Takes : (Order → Bool → Type 0) → (Order → Bool) → Type 0
+Takes gives chosen = (order : Order) (answer : Bool) → gives order answer → answer ≡ chosen order
 
 -- the amounts with the order filled whole at its limit, if it is chosen
 abbrev pub at_limit : (Order → Bool) → Order → Amounts → Amounts

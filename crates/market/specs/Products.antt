@@ -1,10 +1,8 @@
 -- Products of a signed number with a natural one.
-use Rattle.std.specs.Prelude.{◌≡◌, ℕ, zero, suc, ◌+◌, ◌*◌, ◌≤◌, ℤ, pos, negsuc, ◌+ℤ◌, ◌*ℤ◌, ◌≤ℤ◌, unsigned_abs}
+use Rattle.std.specs.Prelude.{◌≡◌, ℕ, zero, suc, ◌+◌, ◌*◌, ◌≤◌, ℤ, pos, ◌+ℤ◌, ◌*ℤ◌, ◌≤ℤ◌, unsigned_abs}
 use Rattle.std.proofs.Common.{arith, mul-suc, mul-add, mul-le-mul}
 use borrow.Author.Differences.{ints, up, down}
-
-pub times_zero : (r : ℤ) → r *ℤ pos 0 ≡ pos 0
-times_zero r = omega (arith, ints)
+use Rattle.std.proofs.lemmas.Int.{unsigned_abs-mul}
 
 pub times_suc : (r : ℤ) (n : ℕ) → r *ℤ pos (suc n) ≡ r +ℤ r *ℤ pos n
 times_suc r n = omega (arith, ints, mul-suc (up r) n, mul-suc (down r) n)
@@ -17,8 +15,7 @@ times_mono zero a b h = omega (arith, ints)
 times_mono (suc k) a b h = omega (arith, ints, times_suc a k, times_suc b k, times_mono k a b h)
 
 pub abs_times : (z : ℤ) (k m n : ℕ) → unsigned_abs z ≤ m → k ≤ n → unsigned_abs (z *ℤ pos k) ≤ m * n
-abs_times (pos z) k m n h l = mul-le-mul h l
-abs_times (negsuc z) k m n h l = omega (arith, ints, mul-le-mul h l)
+abs_times z k m n h l = omega (arith, unsigned_abs-mul z (pos k), mul-le-mul h l)
 
 pub times_both : (a b : ℤ) (k : ℕ) → (a +ℤ b) *ℤ pos k ≡ a *ℤ pos k +ℤ b *ℤ pos k
 times_both a b zero = omega (arith, ints)

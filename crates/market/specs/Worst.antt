@@ -14,7 +14,7 @@ use Rattle.market.specs.Units.{PriceRange}
 use Rattle.market.specs.Outcomes.{Fill, value, NoWorse, Fills, Outcome, Along, Possible, traded, after}
 use Rattle.market.specs.Limits.{loses, at_limit, at_limits}
 use Rattle.market.specs.Rules.{repriced}
-use Rattle.market.specs.Products.{times_zero, times_suc, times_add, times_both}
+use Rattle.market.specs.Products.{times_suc, times_add, times_both}
 
 -- earned less paid, with r added to every price
 abbrev pub net : ℤ → Amounts → ℤ
@@ -30,16 +30,16 @@ net_traded r Buy kwh v a = omega (arith, ints, times_add r a.bought kwh)
 net_traded r Sell kwh v a = omega (arith, ints, times_add r a.sold kwh)
 
 no_gain : (r : ℤ) (side : Side) → gain r side 0 (pos 0) ≡ pos 0
-no_gain r Buy = omega (arith, ints, times_zero r)
-no_gain r Sell = omega (arith, ints, times_zero r)
+no_gain r Buy = omega (arith, ints)
+no_gain r Sell = omega (arith, ints)
 
 -- prices that are, with r, at most or at least so much
 value_most : (r : ℤ) (m : ℕ) (fill : Fill) → AllByRecursion (λ p. (p +ℤ r) ≤ℤ pos m) fill → (value fill +ℤ r *ℤ pos (length fill)) ≤ℤ pos (length fill * m)
-value_most r m [] h = omega (arith, ints, times_zero r)
+value_most r m [] h = omega (arith, ints)
 value_most r m (p ∷ fill) h = omega (arith, ints, times_suc r (length fill), suc-mul (length fill) m, value_most r m fill h.1, h.0)
 
 value_least : (r : ℤ) (m : ℕ) (fill : Fill) → AllByRecursion (λ p. neg_ℤ (pos m) ≤ℤ (p +ℤ r)) fill → neg_ℤ (pos (length fill * m)) ≤ℤ (value fill +ℤ r *ℤ pos (length fill))
-value_least r m [] h = omega (arith, ints, times_zero r)
+value_least r m [] h = omega (arith, ints)
 value_least r m (p ∷ fill) h = omega (arith, ints, times_suc r (length fill), suc-mul (length fill) m, value_least r m fill h.1, h.0)
 
 -- what an order can lose, at a limit that is z with r added
@@ -47,24 +47,16 @@ cost : Side → ℕ → ℤ → ℕ
 cost Buy kwh z = kwh * up z
 cost Sell kwh z = kwh * down z
 
-at_most_up : (z : ℤ) → z ≤ℤ pos (up z)
-at_most_up (pos n) = omega (arith, ints)
-at_most_up (negsuc n) = omega (arith, ints)
-
-at_least_down : (z : ℤ) → neg_ℤ (pos (down z)) ≤ℤ z
-at_least_down (pos n) = omega (arith, ints)
-at_least_down (negsuc n) = omega (arith, ints)
-
 gain_least : (r : ℤ) (side : Side) (kwh : ℕ) (limit : ℤ) (fill : Fill) → length fill ≤ kwh → AllByRecursion (NoWorse side limit) fill →
     neg_ℤ (pos (cost side kwh (limit +ℤ r))) ≤ℤ gain r side (length fill) (value fill)
 unfolding cost
 gain_least r Buy kwh limit fill n h =
     let m : ℕ = up (limit +ℤ r) in
-    let l : AllByRecursion (λ p. (p +ℤ r) ≤ℤ pos m) fill = All-weaker (λ p. p ≤ℤ limit) (λ p. (p +ℤ r) ≤ℤ pos m) (λ p l. omega (arith, ints, at_most_up (limit +ℤ r))) fill h in
+    let l : AllByRecursion (λ p. (p +ℤ r) ≤ℤ pos m) fill = All-weaker (λ p. p ≤ℤ limit) (λ p. (p +ℤ r) ≤ℤ pos m) (λ p l. omega (arith, ints)) fill h in
     omega (arith, ints, value_most r m fill l, mul-le-mul n (le_refl m))
 gain_least r Sell kwh limit fill n h =
     let m : ℕ = down (limit +ℤ r) in
-    let l : AllByRecursion (λ p. neg_ℤ (pos m) ≤ℤ (p +ℤ r)) fill = All-weaker (λ p. limit ≤ℤ p) (λ p. neg_ℤ (pos m) ≤ℤ (p +ℤ r)) (λ p l. omega (arith, ints, at_least_down (limit +ℤ r))) fill h in
+    let l : AllByRecursion (λ p. neg_ℤ (pos m) ≤ℤ (p +ℤ r)) fill = All-weaker (λ p. limit ≤ℤ p) (λ p. neg_ℤ (pos m) ≤ℤ (p +ℤ r)) (λ p l. omega (arith, ints)) fill h in
     omega (arith, ints, value_least r m fill l, mul-le-mul n (le_refl m))
 
 -- a losing order loses that whole at its limit, and any other loses nothing
@@ -87,7 +79,7 @@ limit_gain : (r : ℤ) (side : Side) (kwh : ℕ) (limit : ℤ) → gain r side k
 limit_gain r Buy kwh limit = omega (arith, ints, times_both limit r kwh)
 limit_gain r Sell kwh limit = omega (arith, ints, times_both limit r kwh)
 
-same_whole : (b b' s s' : ℕ) (p p' e e' : ℤ) → b ≡ b' → s ≡ s' → p ≡ p' → e ≡ e' →
+pub same_whole : (b b' s s' : ℕ) (p p' e e' : ℤ) → b ≡ b' → s ≡ s' → p ≡ p' → e ≡ e' →
     ◌≡◌ {A = Amounts} (record { bought = b; paid = p; sold = s; earned = e }) (record { bought = b'; paid = p'; sold = s'; earned = e' })
 same_whole b b' s s' p p' e e' h k l m = cc
 
@@ -164,7 +156,7 @@ module _ (chosen : Order → Bool) where
       go false = record { at_most_open = omega arith; in_range = tt; no_worse = tt }
 
   value_same : (z : ℤ) (n : ℕ) → value (replicate n z) ≡ z *ℤ pos n
-  value_same z zero = sym (times_zero z)
+  value_same z zero = omega (arith, ints)
   value_same z (suc n) = omega (arith, ints, times_suc z n, value_same z n)
 
   pub after_at_limits : (a : Amounts) (orders : List Order) → after a orders (at_limit_outcome orders) ≡ at_limits chosen a orders

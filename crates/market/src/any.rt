@@ -33,11 +33,10 @@ impl MarketRule for Market {
     }
 
     fn publish(&mut self, reference: Price) {
-        let next = match *self {
-            Market::Xbid(_) => Market::Xbid(Xbid { reference }),
-            Market::Mpeg(_) => Market::Mpeg(Mpeg { reference }),
-            Market::Pce(_) => Market::Pce(Pce { reference }),
-        };
-        *self = next;
+        match self {
+            Market::Xbid(rule) => rule.publish(reference),
+            Market::Mpeg(rule) => rule.publish(reference),
+            Market::Pce(rule) => rule.publish(reference),
+        }
     }
 }

@@ -1,12 +1,13 @@
 //! MPEG.
 ghost use Rattle.std.specs.Prelude.{◌≡◌, ◌*◌, ◌≤◌, pos, ◌+ℤ◌, ◌-ℤ◌, ◌*ℤ◌, unsigned_abs};
-ghost use Rattle.std.specs.Int.{int_min};
+ghost use Rattle.market.specs.Limits.{losing_on, at_limits};
+ghost use Rattle.market.specs.Cells.{its_orders};
 ghost use Rattle.market.specs.Rules.{mpeg, repriced};
 ghost use Rattle.market.specs.Laws.{mpeg_lawful};
 
-use crate::limits::{Selection, filled_at_limits};
-use crate::money::{minus, value_of, with_vat};
-use crate::{Amounts, Figures, MarketRule, OpenCell, Price, Vat};
+use crate::limits::filled_at_limits;
+use crate::money::{CellValue, value_of};
+use crate::{Figures, MarketRule, OpenCell, Price, Side, Vat};
 
 #[derive(Clone, Copy, Drop)]
 pub struct Mpeg {
@@ -14,36 +15,35 @@ pub struct Mpeg {
     pub reference: Price,
 }
 
-// a value with the check price added to the price of each of its kWh
-fn repriced_value(value: i64, kwh: u32, check: Price) -> i64
-    requires value_of_a_cell { (unsigned_abs value ≤ kwh * 400000) × (kwh ≤ 100000000) }
-    ensures has_the_check_price_on_each { result ≡ value +ℤ check.cents *ℤ pos kwh }
-    ensures is_in_range { unsigned_abs result ≤ kwh * 800000 }
-{
-    value + value_of(kwh, check)
-}
+impl Mpeg {
+    // a value with the check price added to the price of each of its kWh
+    fn repriced_value(self, value: i64, kwh: u32) -> i64
+        requires value_of_a_cell { (unsigned_abs value ≤ kwh * 400000) × (kwh ≤ 100000000) }
+        ensures has_the_check_price_on_each { result ≡ value +ℤ self.reference.cents *ℤ pos kwh }
+        ensures is_in_range { unsigned_abs result ≤ kwh * 800000 }
+    {
+        value + value_of(kwh, self.reference)
+    }
 
-fn repriced_balance(figures: Figures, check: Price) -> i64
-    ensures is_earned_less_paid { result ≡ (repriced check.cents figures.amounts).earned -ℤ (repriced check.cents figures.amounts).paid }
-    ensures is_in_range { unsigned_abs result ≤ 80000000000000 }
-{
-    let Amounts {
-        bought,
-        paid,
-        sold,
-        earned,
-    } = figures.amounts;
-    minus(
-        repriced_value(earned, sold, check),
-        repriced_value(paid, bought, check),
-    )
-}
+    fn repriced_balance(self, figures: Figures) -> CellValue
+        ensures is_earned_less_paid { result.value ≡ (repriced self.reference.cents figures.amounts).earned -ℤ (repriced self.reference.cents figures.amounts).paid }
+    {
+        let earned = self.repriced_value(figures.amounts.earned, figures.amounts.sold);
+        let paid = self.repriced_value(figures.amounts.paid, figures.amounts.bought);
+        CellValue {
+            value: earned - paid,
+        }
+    }
 
-// the smallest of 0 and the two
-fn smallest(a: i64, b: i64) -> i64
-    ensures is_the_smallest { result ≡ int_min (pos 0) (int_min a b) }
-{
-    a.min(b).min(0)
+    // the figures with the losing orders of one side filled
+    fn filled_on<D>(self, side: Side, cell: &OpenCell<'_, D>) -> Figures
+        ensures are_filled { result.amounts ≡ at_limits (losing_on side self.reference.cents) cell.now.figures.amounts (its_orders cell.now) }
+    {
+        filled_at_limits(cell, |order| {
+            order.side == side
+                && side.loses_at(i64::from(order.limit) + i64::from(self.reference.cents))
+        })
+    }
 }
 
 impl MarketRule for Mpeg {
@@ -52,13 +52,13 @@ impl MarketRule for Mpeg {
     ghost lawful = { mpeg_lawful };
 
     fn worth(&self, figures: Figures, vat: Vat) -> i64 {
-        with_vat(repriced_balance(figures, self.reference), vat)
+        self.repriced_balance(figures).with_vat(vat)
     }
 
     fn exposure<D>(&self, cell: &OpenCell<'_, D>, vat: Vat) -> i64 {
-        let bought = filled_at_limits(cell, Selection::LosingPurchases(self.reference));
-        let sold = filled_at_limits(cell, Selection::LosingSales(self.reference));
-        smallest(self.worth(bought, vat), self.worth(sold, vat))
+        let bought = self.worth(self.filled_on(Side::Buy, cell), vat);
+        let sold = self.worth(self.filled_on(Side::Sell, cell), vat);
+        bought.min(sold).min(0)
     }
 
     fn publish(&mut self, reference: Price) {

@@ -1,10 +1,10 @@
 //! PCE.
-ghost use Rattle.std.specs.Prelude.{◌≡◌, ◌*◌, ◌≤◌};
+ghost use Rattle.std.specs.Prelude.{◌≡◌, ◌*◌, pos, neg_ℤ};
 ghost use Rattle.market.specs.Rules.{pce, cct, imbalance};
 ghost use Rattle.market.specs.Laws.{pce_lawful};
 
-use crate::limits::{Selection, filled_at_limits};
-use crate::money::with_vat;
+use crate::limits::filled_at_limits;
+use crate::money::CellValue;
 use crate::{Figures, MarketRule, OpenCell, Price, Vat};
 
 #[derive(Clone, Copy, Drop)]
@@ -14,23 +14,20 @@ pub struct Pce {
 }
 
 // an estimate below 0 counts as 0
-fn counted_cct(estimate: Price) -> u64
+fn counted_cct(estimate: Price) -> u32
     ensures is_the_cct { result ≡ cct estimate.cents }
-    ensures is_in_range { result ≤ 400000 }
 {
-    if estimate.cents > 0 {
-        estimate.cents.unsigned_abs() as u64
-    } else {
-        0
-    }
+    estimate.cents.max(0).unsigned_abs()
 }
 
-// what is out of balance, at the CCT
-fn imbalance_cost(figures: Figures, estimate: Price) -> u64
-    ensures is_imbalance_times_cct { result ≡ imbalance figures.amounts * cct estimate.cents }
-    ensures is_in_range { result ≤ 80000000000000 }
+// what is out of balance costs the CCT
+fn imbalance_value(figures: Figures, estimate: Price) -> CellValue
+    ensures is_minus_imbalance_times_cct { result.value ≡ neg_ℤ (pos (imbalance figures.amounts * cct estimate.cents)) }
 {
-    figures.amounts.sold.abs_diff(figures.amounts.bought) as u64 * counted_cct(estimate)
+    let imbalance = figures.amounts.sold.abs_diff(figures.amounts.bought);
+    CellValue {
+        value: -(i64::from(imbalance) * i64::from(counted_cct(estimate))),
+    }
 }
 
 impl MarketRule for Pce {
@@ -39,11 +36,11 @@ impl MarketRule for Pce {
     ghost lawful = { pce_lawful };
 
     fn worth(&self, figures: Figures, vat: Vat) -> i64 {
-        with_vat(-(imbalance_cost(figures, self.reference) as i64), vat)
+        imbalance_value(figures, self.reference).with_vat(vat)
     }
 
     fn exposure<D>(&self, cell: &OpenCell<'_, D>, vat: Vat) -> i64 {
-        self.worth(filled_at_limits(cell, Selection::All), vat)
+        self.worth(filled_at_limits(cell, |_| true), vat)
     }
 
     fn publish(&mut self, reference: Price) {

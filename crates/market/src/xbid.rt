@@ -1,10 +1,10 @@
 //! MI-XBID.
-ghost use Rattle.std.specs.Prelude.{◌≡◌, ◌≤◌, ◌-ℤ◌, unsigned_abs};
+ghost use Rattle.std.specs.Prelude.{◌≡◌, ◌-ℤ◌};
 ghost use Rattle.market.specs.Rules.{xbid};
 ghost use Rattle.market.specs.Laws.{xbid_lawful};
 
-use crate::limits::{Selection, filled_at_limits};
-use crate::money::{minus, with_vat};
+use crate::limits::filled_at_limits;
+use crate::money::CellValue;
 use crate::{Figures, MarketRule, OpenCell, Price, Vat};
 
 #[derive(Clone, Copy, Drop)]
@@ -13,11 +13,12 @@ pub struct Xbid {
     pub reference: Price,
 }
 
-fn balance(figures: Figures) -> i64
-    ensures is_earned_less_paid { result ≡ figures.amounts.earned -ℤ figures.amounts.paid }
-    ensures is_in_range { unsigned_abs result ≤ 80000000000000 }
+fn balance(figures: Figures) -> CellValue
+    ensures is_earned_less_paid { result.value ≡ figures.amounts.earned -ℤ figures.amounts.paid }
 {
-    minus(figures.amounts.earned, figures.amounts.paid)
+    CellValue {
+        value: figures.amounts.earned - figures.amounts.paid,
+    }
 }
 
 impl MarketRule for Xbid {
@@ -26,11 +27,11 @@ impl MarketRule for Xbid {
     ghost lawful = { xbid_lawful };
 
     fn worth(&self, figures: Figures, vat: Vat) -> i64 {
-        with_vat(balance(figures), vat)
+        balance(figures).with_vat(vat)
     }
 
     fn exposure<D>(&self, cell: &OpenCell<'_, D>, vat: Vat) -> i64 {
-        let filled = filled_at_limits(cell, Selection::Losing);
+        let filled = filled_at_limits(cell, |order| order.side.loses_at(i64::from(order.limit)));
         self.worth(filled, vat).min(0)
     }
 

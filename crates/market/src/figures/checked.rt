@@ -1,6 +1,5 @@
 //! Figures that are within the limits of a cell, and the room beside what is open in it.
-ghost use Rattle.std.specs.Prelude.{◌≡◌, ◌+◌, ◌-◌, ◌<◌, ◌≤◌, true, cond, [], pos, ◌*ℤ◌, Some, None};
-ghost use Rattle.market.specs.declared.orders.Side.TheVariants.{Buy, Sell};
+ghost use Rattle.std.specs.Prelude.{◌≡◌, ◌+◌, ◌<◌, ◌≤◌, [], pos, ◌*ℤ◌, Some, None};
 ghost use Rattle.market.specs.Units.{PriceRange};
 ghost use Rattle.market.specs.Orders.{open_among, open_energy, LimitsInRange, WithinLimits};
 ghost use Rattle.market.specs.Outcomes.{traded};
@@ -19,9 +18,9 @@ impl Figures {
             sold,
             earned,
         } = amounts;
-        if bought as u64 + sold as u64 <= 100_000_000
-            && paid.unsigned_abs() <= bought as u64 * 400_000
-            && earned.unsigned_abs() <= sold as u64 * 400_000
+        if u64::from(bought) + u64::from(sold) <= 100_000_000
+            && paid.unsigned_abs() <= u64::from(bought) * 400_000
+            && earned.unsigned_abs() <= u64::from(sold) * 400_000
         {
             Some(Figures { amounts })
         } else {
@@ -54,56 +53,12 @@ impl Figures {
         ] }
     {
         let mut room = 100_000_000 - self.amounts.bought - self.amounts.sold;
-        for proposal in proposals {
-            let in_cell = proposal.order.is_open_in(participant, day);
-            match room_below(room, &proposal.order, in_cell) {
-                Some(left) => room = left,
-                None => return None,
+        for Proposal { order, .. } in proposals {
+            if order.is_open_in(participant, day) {
+                room = room_below(room, order)?;
             }
         }
         Some(room)
-    }
-
-    fn buy(self, kwh: u32, price: Price) -> Figures
-        requires room_in_the_cell { self.amounts.bought + self.amounts.sold + kwh ≤ 100000000 }
-        ensures have_bought_more { result.amounts ≡ traded Buy kwh (price.cents *ℤ pos kwh) self.amounts }
-    {
-        let Amounts {
-            bought,
-            paid,
-            sold,
-            earned,
-        } = self.amounts;
-        let value = value_of(kwh, price);
-        Figures {
-            amounts: Amounts {
-                bought: bought + kwh,
-                paid: paid + value,
-                sold,
-                earned,
-            },
-        }
-    }
-
-    fn sell(self, kwh: u32, price: Price) -> Figures
-        requires room_in_the_cell { self.amounts.bought + self.amounts.sold + kwh ≤ 100000000 }
-        ensures have_sold_more { result.amounts ≡ traded Sell kwh (price.cents *ℤ pos kwh) self.amounts }
-    {
-        let Amounts {
-            bought,
-            paid,
-            sold,
-            earned,
-        } = self.amounts;
-        let value = value_of(kwh, price);
-        Figures {
-            amounts: Amounts {
-                bought,
-                paid,
-                sold: sold + kwh,
-                earned: earned + value,
-            },
-        }
     }
 
     // the figures with so many kWh bought or sold besides, all at that price
@@ -111,25 +66,30 @@ impl Figures {
         requires room_in_the_cell { self.amounts.bought + self.amounts.sold + kwh ≤ 100000000 }
         ensures have_traded_more { result.amounts ≡ traded side kwh (price.cents *ℤ pos kwh) self.amounts }
     {
-        match side {
-            Side::Buy => self.buy(kwh, price),
-            Side::Sell => self.sell(kwh, price),
-        }
+        let value = value_of(kwh, price);
+        let amounts = match side {
+            Side::Buy => Amounts {
+                bought: self.amounts.bought + kwh,
+                paid: self.amounts.paid + value,
+                ..self.amounts
+            },
+            Side::Sell => Amounts {
+                sold: self.amounts.sold + kwh,
+                earned: self.amounts.earned + value,
+                ..self.amounts
+            },
+        };
+        Figures { amounts }
     }
 }
 
 // the room for open energy that is left below an order of the cell, if it fits and its limit is a price
-fn room_below(room: u32, order: &Order, in_cell: bool) -> Option<u32>
+fn room_below(room: u32, order: &Order) -> Option<u32>
     ensures is_what_is_left_or_it_does_not_fit { elim result [
-      | Some left ↦ (in_cell ≡ true → (order.now.kwh ≤ room) × PriceRange order.now.limit) × (left ≡ cond in_cell (room - order.now.kwh) room)
-      | None ↦ (in_cell ≡ true) × ((order.now.kwh ≤ room) × PriceRange order.now.limit → ⊥)
+      | Some left ↦ (left + order.now.kwh ≡ room) × PriceRange order.now.limit
+      | None ↦ ((order.now.kwh ≤ room) × PriceRange order.now.limit → ⊥)
     ] }
 {
-    if !in_cell {
-        Some(room)
-    } else if order.kwh <= room && order.limit.unsigned_abs() <= 400_000 {
-        Some(room - order.kwh)
-    } else {
-        None
-    }
+    Price::new(order.limit)?;
+    room.checked_sub(order.kwh)
 }

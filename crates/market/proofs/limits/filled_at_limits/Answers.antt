@@ -1,22 +1,27 @@
-use Rattle.market.specs.Limits.{selects}
-use Rattle.market.proofs.Filling.{next_fits, next_filled, at_row, all_filled, none_filled}
+use Rattle.std.proofs.Common.{true, false, refl, sym, ap, ◌∙◌, arith}
+use borrow.Author.Differences.{ints}
+use Rattle.std.proofs.lemmas.Fn.{says_at}
+use Rattle.market.specs.declared.figures.Figures.{Figures}
+use Rattle.market.proofs.Open.{taken, passed, filled, kept, limits_hold}
 use Rattle.market.proofs.limits.filled_at_limits.Goals as goal
+use Rattle.market.proofs.limits.filled_at_limits.Goals.{then-is_open_in+then-is_chosen, else-is_open_in, else-is_open_in-via-then-is_open_in+else-is_chosen, else-is_open_in-via-else-is_open_in}
 
-pub with_order-figures-requires : goal.with_order-figures-requires
-with_order-figures-requires g c = record {
-  room_where_it_belongs =
-      next_fits _ _ _ c.is_open_in-in_cell.result c.is_open_in-in_cell.ensures.is_the_test
-      (at_row _ _ _ c.args.cell.now.proposals.now c.loop-proposal.proposal-index c.loop-proposal.invariant c.proposal-item.result c.proposal-item.is c.loop-proposal-test.true);
-}
+pub loop-order-init : goal.loop-order-init
+loop-order-init g c = record { room = c.args.cell.now.few; limits = limits_hold c.args.cell.now; leads = λ chosen h. refl }
 
-pub loop-proposal-init : goal.loop-proposal-init
-loop-proposal-init g c = none_filled c.args.cell.now (selects c.args.selection)
-
-pub loop-proposal-preserved : goal.loop-proposal-preserved
-loop-proposal-preserved g c =
-    next_filled _ _ _ c.is_open_in-in_cell.result c.is_open_in-in_cell.ensures.is_the_test
-    (at_row _ _ _ c.args.cell.now.proposals.now c.loop-proposal.proposal-index c.loop-proposal.invariant c.proposal-item.result c.proposal-item.is c.loop-proposal-test.true)
-    c.with_order-figures.result.amounts c.with_order-figures.ensures.are_filled
-
-pub returns : goal.returns
-returns g c = record { are_filled = all_filled _ _ _ c.args.cell.now.proposals.now c.loop-proposal.proposal-index c.loop-proposal.invariant c.loop-proposal-test.false }
+pub loop-order-preserved : goal.loop-order-preserved
+loop-order-preserved g c =
+    let next = taken _ _ c.args.cell.now.proposals.now _ c.loop-order-item.is c.loop-order-test.true in
+    elim c.if-is_open_in.branch [
+      | then-is_open_in+then-is_chosen w ↦
+          filled true _ _ c.loop-order.invariant (next w.if-is_open_in.ensures.is_the_test) (λ chosen q. sym w.if-is_chosen.true ∙ q _ _ (says_at g.F.Fn w.is_chosen.ensures refl)) (omega (arith, ints))
+          (ap (λ (x : Figures). x.amounts) w.figures-is ∙ w.trade-figures.ensures.have_traded_more)
+      | else-is_open_in w ↦
+          elim w.else-is_open_in.branch [
+            | else-is_open_in-via-then-is_open_in+else-is_chosen w' ↦
+                filled false _ _ c.loop-order.invariant (next w'.if-is_open_in.ensures.is_the_test) (λ chosen q. sym w'.if-is_chosen.false ∙ q _ _ (says_at g.F.Fn w'.is_chosen.ensures refl)) refl
+                (ap (λ (x : Figures). x.amounts) w.figures-is)
+            | else-is_open_in-via-else-is_open_in w' ↦
+                kept _ c.loop-order.invariant (passed _ _ c.args.cell.now.proposals.now _ c.loop-order-item.is c.loop-order-test.true w'.if-is_open_in.ensures.is_the_test) (ap (λ (x : Figures). x.amounts) w.figures-is)
+          ]
+    ]

@@ -1,9 +1,11 @@
 use Rattle.std.proofs.Common.{drop}
-use Rattle.market.specs.Limits.{selects}
-use Rattle.market.specs.Orders.{orders_of}
+use Rattle.std.specs.Fn.{FnReturnsAt}
+use Rattle.market.specs.Limits.{Takes}
+use Rattle.market.specs.Orders.{open_among}
 use Rattle.market.specs.Cells.{its_orders}
-use Rattle.market.proofs.Filling.{Filling}
+use Rattle.market.proofs.Open.{Filling}
 use Rattle.market.proofs.limits.filled_at_limits.Given as goal
 
-abbrev pub invariant-loop-proposal : goal.invariant-loop-proposal
-invariant-loop-proposal g l = Filling l.cell.participant l.cell.day (selects l.selection) l.cell.figures.amounts (its_orders l.cell) l.figures.amounts (orders_of (drop l.proposal-index l.cell.proposals.now))
+abbrev pub invariant-loop-order : goal.invariant-loop-order
+invariant-loop-order g l =
+    Filling (Takes (FnReturnsAt g.F.Fn l.is_chosen)) l.cell.figures.amounts (its_orders l.cell) l.figures.amounts (open_among l.cell.participant l.cell.day (drop l.order-index l.cell.proposals.now))
