@@ -6,7 +6,6 @@ pub mod Placed
 pub mod Meaning
 pub mod Running
 pub mod Limits
-pub mod Checks
 pub mod Days
 pub mod Examples
 pub mod Same

@@ -55,10 +55,7 @@ impl Guarantee {
     pub fn is_valid_on(&self, day: u32) -> bool
         ensures valid_up_to_the_last_day { result ≡ valid self.now day }
     {
-        match self.last {
-            Some(last) => day <= last,
-            None => true,
-        }
+        self.last.is_none_or(|last| day <= last)
     }
 
     /// What it adds to the guarantees valid on a day.
