@@ -1,10 +1,13 @@
 -- The smallest of the days' capacities: the function form, and the loop.
-use Rattle.std.proofs.Common.{◌≡◌, ℕ, zero, suc, ◌+◌, ◌-◌, ◌<◌, ◌≤◌, Bool, true, false, cond, ◌⊎◌, ℤ, ◌≤ℤ◌, sym, refl, ap, ◌∙◌, subst, inl, inr, arith}
+use Rattle.std.proofs.Common.{◌≡◌, ℕ, zero, suc, ◌+◌, ◌-◌, ◌<◌, ◌≤◌, Bool, true, false, cond, ◌⊎◌, ℤ, ◌≤ℤ◌, map, sym, refl, ap, ◌∙◌, subst, inl, inr, arith}
 use borrow.Author.Differences.{ints}
 use lib.Signed.{≤ℤ_refl, lt_z}
 use Rattle.std.specs.Int.{int_min}
 use Rattle.std.proofs.lemmas.Int.{clamps}
 use Rattle.std.proofs.lemmas.Bool.{cases_lt}
+use Rattle.std.specs.List.{fold, range_with_len}
+use Rattle.std.proofs.lemmas.Int.{fold-int_min_bounds, fold-int_min_reached}
+use Rattle.std.proofs.lemmas.List.FromFn.{get_or-map-range_with_len, length-map-range_with_len}
 use Rattle.coverage.specs.Allocation.{Position}
 use Rattle.coverage.specs.Capacity.{capacity_at, smallest_over, capacity, SmallestOfTheDays}
 
@@ -61,35 +64,22 @@ smallest_unique p c e s t =
       t.one_reaches.3,
     )
 
--- The loop: c is the smallest of today and of the days from the first up to the one that comes next.
-pub record LeastSoFar (p : Position) (next : ℕ) (c : ℤ) : Type 0 where
-  pub at_today : c ≤ℤ capacity_at p p.today
-  pub before : (d : ℕ) → p.first_day ≤ d → d < next → c ≤ℤ capacity_at p d
-  pub reached : (d : ℕ) × (p.first_day ≤ d) × (d ≤ p.today) × (capacity_at p d ≡ c)
-
-pub least_first : (p : Position) (c : ℤ) → p.first_day ≤ p.today → c ≡ capacity_at p p.today → LeastSoFar p p.first_day c
-least_first p c h e = record { at_today = omega (arith, ints); before = λ d l u. absurd (omega arith); reached = (p.today, h, omega arith, sym e) }
-
-pub least_more : (p : Position) (next : ℕ) (c x r : ℤ) → p.first_day ≤ next → next < p.today → LeastSoFar p next c → x ≡ capacity_at p next → r ≡ int_min c x → LeastSoFar p (next + 1) r
-least_more p next c x r l u s e is =
+-- The code: the smallest of today's capacity and of those of the days before.
+pub smallest_by_fold : (p : Position) (a c : ℤ) → p.first_day ≤ p.today → a ≡ capacity_at p p.today →
+    c ≡ fold int_min a (map (capacity_at p) (range_with_len p.first_day (p.today - p.first_day))) → SmallestOfTheDays p c
+smallest_by_fold p a c h today e =
+    let bounds = fold-int_min_bounds a (map (capacity_at p) (range_with_len p.first_day (p.today - p.first_day))) c e in
     record {
-      at_today = omega (arith, ints, clamps, s.at_today);
-      before = λ d f b. elim (cases_lt d next) [
-        | inl earlier ↦ omega (arith, ints, clamps, s.before d f earlier)
-        | inr here ↦ let same : next ≡ d = omega arith in omega (arith, ints, clamps, ap (capacity_at p) same)
+      none_smaller = λ d f t. elim (cases_lt d p.today) [
+        | inl earlier ↦
+            let at = get_or-map-range_with_len (capacity_at p) p.first_day (p.today - p.first_day) (d - p.first_day) d a (omega arith) (omega arith) in
+            subst (λ (x : ℤ). c ≤ℤ x) at (bounds.1 (d - p.first_day) a (omega (arith, length-map-range_with_len (capacity_at p) p.first_day (p.today - p.first_day))))
+        | inr last ↦ let same : p.today ≡ d = omega arith in omega (arith, ints, bounds.0, today, ap (capacity_at p) same)
       ];
-      reached = elim (min_either c x) [
-        | inl old ↦ (s.reached.0, s.reached.1, s.reached.2, s.reached.3 ∙ sym old ∙ sym is)
-        | inr new ↦ (next, l, omega arith, sym e ∙ sym new ∙ sym is)
+      one_reaches = elim (fold-int_min_reached a (map (capacity_at p) (range_with_len p.first_day (p.today - p.first_day))) c e) [
+        | inl same ↦ (p.today, h, omega arith, sym today ∙ sym same)
+        | inr (k, l, is) ↦
+            let before : k < p.today - p.first_day = omega (arith, length-map-range_with_len (capacity_at p) p.first_day (p.today - p.first_day)) in
+            (p.first_day + k, omega arith, omega arith, sym (get_or-map-range_with_len (capacity_at p) p.first_day (p.today - p.first_day) k (p.first_day + k) c before refl) ∙ is)
       ];
-    }
-
-pub least_all : (p : Position) (next : ℕ) (c : ℤ) → p.today ≤ next → LeastSoFar p next c → SmallestOfTheDays p c
-least_all p next c h s =
-    record {
-      none_smaller = λ d f t. elim (cases_lt d next) [
-        | inl earlier ↦ s.before d f earlier
-        | inr last ↦ let same : p.today ≡ d = omega arith in omega (arith, ints, s.at_today, ap (capacity_at p) same)
-      ];
-      one_reaches = s.reached;
     }

@@ -1,4 +1,5 @@
 pub mod Totals
+pub mod Sums
 pub mod Places
 pub mod Periods
 pub mod Allocated
