@@ -1,7 +1,6 @@
 -- Sums over a list, of which a test may leave terms out.
-use Rattle.std.proofs.Common.{◌≡◌, ℕ, ◌+◌, ◌*◌, ◌<◌, ◌≤◌, Bool, true, false, ◌&&◌, List, [], ◌∷◌, length, get_or, drop, sym, refl, ap, ◌∙◌, arith}
+use Rattle.std.proofs.Common.{◌≡◌, ℕ, ◌+◌, ◌<◌, ◌≤◌, Bool, true, false, ◌&&◌, List, [], ◌∷◌, sym, refl, ap, ◌∙◌, arith}
 use Rattle.std.specs.List.{AllByRecursion}
-use Rattle.std.proofs.lemmas.List.{drop_more, drop_all}
 use Rattle.coverage.specs.Allocation.{total, amount_if}
 
 -- An amount under a test.
@@ -70,18 +69,6 @@ module _ {X : Type 0} where
   pub total_none : (f : X → ℕ) (xs : List X) → ((x : X) → f x ≡ 0) → total f xs ≡ 0
   total_none f [] h = refl
   total_none f (x ∷ xs) h = omega (arith, total_none f xs h, h x)
-
-  -- terms of a range
-  pub total_range : (f : X → ℕ) (most : ℕ) (xs : List X) → AllByRecursion (λ x. f x ≤ most) xs → total f xs ≤ length xs * most
-  total_range f most [] h = omega arith
-  total_range f most (x ∷ xs) h = omega (arith, total_range f most xs h.1, h.0)
-
-  -- a running sum, one element further and at the end
-  pub total_drop_more : (f : X → ℕ) (xs : List X) (i : ℕ) (d : X) → i < length xs → total f (drop i xs) ≡ f (get_or xs i d) + total f (drop (i + 1) xs)
-  total_drop_more f xs i d h = ap (total f) (drop_more xs i d h)
-
-  pub total_drop_all : (f : X → ℕ) (xs : List X) (i : ℕ) → length xs ≤ i → total f (drop i xs) ≡ 0
-  total_drop_all f xs i h = ap (total f) (drop_all i xs h)
 
 -- a sum over two lists, in either order
 pub total_swap : {X Y : Type 0} (f : X → Y → ℕ) (xs : List X) (ys : List Y) → total (λ x. total (f x) ys) xs ≡ total (λ y. total (λ x. f x y) xs) ys

@@ -2,7 +2,7 @@
 ghost use Rattle.std.specs.Prelude.{◌≡◌, ◌^◌, ◌<◌, ◌≤◌, ◌==◌, ◌&&◌, nat_le, sum_by, filter, is_some, IfSome, Decides};
 ghost use Rattle.coverage.specs.Admission.{Admissible, position_of};
 ghost use Rattle.coverage.specs.Allocation.{valid};
-ghost use Rattle.coverage.specs.Capacity.{excess, owes_in, uncredited, exposure, capacity_at, SmallestOfTheDays};
+ghost use Rattle.coverage.specs.Capacity.{excess, owes_in, uncredited, exposure, capacity_at, capacity, SmallestOfTheDays};
 
 use crate::position::Position;
 use crate::rows::Debt;
@@ -53,6 +53,7 @@ impl Admitted<'_> {
 
     /// The smallest capacity of the days from the first to today.
     pub(crate) fn capacity(&self) -> i64
+        ensures is_the_capacity { result ≡ capacity (position_of self.now.position) }
         ensures smallest_of_the_days { SmallestOfTheDays (position_of self.now.position) result }
     {
         (self.position.first_day..self.position.today)
