@@ -1,11 +1,9 @@
 pub mod Totals
-pub mod Sums
 pub mod Places
 pub mod Periods
 pub mod Allocated
 pub mod Placed
 pub mod Meaning
-pub mod Running
 pub mod Limits
 pub mod Days
 pub mod Examples

@@ -9,7 +9,7 @@ use Rattle.coverage.specs.Admission.{Admissible}
 use Rattle.coverage.specs.Meaning.{Dated}
 use Rattle.coverage.specs.Capacity.{owed, excess, periods, times, uncredited}
 use Rattle.coverage.proofs.Totals.{total_le, total_le_each, total_swap, if_and_le}
-use Rattle.coverage.proofs.Sums.{total_is}
+use Rattle.coverage.proofs.Totals.{total_is}
 use Rattle.coverage.proofs.Periods.{periods_once, total_times}
 
 module _ (p : Position) (fit : Admissible p) where

@@ -1,10 +1,20 @@
 -- Sums over the settlement periods of a list of debts.
-use Rattle.std.proofs.Common.{◌≡◌, ℕ, ◌+◌, ◌*◌, Bool, true, false, cond, ◌||◌, eqb, leb, List, [], ◌∷◌, sym, refl, ap, ◌∙◌, inl, inr, arith}
-use Rattle.std.proofs.lemmas.Bool.{eq-eqb, ne_eqb, eqb-true, eqb-false, cases_eq, both_ways, or_parts, or_right}
+use Rattle.std.proofs.Common.{◌≡◌, ℕ, ◌+◌, ◌*◌, Bool, true, false, cond, ◌||◌, ◌==◌, eqb, leb, List, [], ◌∷◌, sym, refl, ap, ◌∙◌, inl, inr, arith}
+use Rattle.std.proofs.lemmas.Bool.{eq-eqb, ne_eqb, eqb-true, eqb-false, cases_eq, both_ways, or_parts, or_right, cond-false}
+use Rattle.std.specs.List.{list_any}
 use Rattle.coverage.specs.declared.rows.Debt.{Debt}
 use Rattle.coverage.specs.Allocation.{Position, total, amount_if}
 use Rattle.coverage.specs.Capacity.{owed, excess, owes_in, periods, times, ListedOnce, HoweverListed}
 use Rattle.coverage.proofs.Totals.{total_none, if_and_le}
+
+-- owes_in asks each debt
+pub owes_in_is : (xs : List Debt) (q : ℕ) → list_any (λ x. x.period == q) xs ≡ owes_in xs q
+owes_in_is [] q = refl
+owes_in_is (x ∷ xs) q = ap (λ t. (x.period == q) || t) (owes_in_is xs q)
+
+-- a period that no later debt is of stands at the debt's place
+pub periods_last : (x : Debt) (xs : List Debt) → owes_in xs x.period ≡ false → periods (x ∷ xs) ≡ x.period ∷ periods xs
+periods_last x xs last = cond-false (owes_in xs x.period) (periods xs) (x.period ∷ periods xs) last
 
 -- a period that something is owed in stands in the list once, any other not at all
 pub times_periods : (xs : List Debt) (q : ℕ) → times q (periods xs) ≡ amount_if (owes_in xs q) 1

@@ -1,6 +1,9 @@
 -- Sums over a list, of which a test may leave terms out.
-use Rattle.std.proofs.Common.{◌≡◌, ℕ, ◌+◌, ◌<◌, ◌≤◌, Bool, true, false, ◌&&◌, List, [], ◌∷◌, sym, refl, ap, ◌∙◌, arith}
+use Rattle.std.proofs.Common.{◌≡◌, ℕ, ◌+◌, ◌<◌, ◌≤◌, Bool, true, false, cond, ◌&&◌, List, [], ◌∷◌, get_or, filter, sum_by, sym, refl, ap, ◌∙◌, arith}
 use Rattle.std.specs.List.{AllByRecursion}
+use Rattle.std.proofs.lemmas.List.Elements.{recursion_from_All}
+use Rattle.std.proofs.lemmas.List.Recursion.{is_sum_by}
+use Rattle.std.proofs.lemmas.List.Sums.{sum_by-cons}
 use Rattle.coverage.specs.Allocation.{total, amount_if}
 
 -- An amount under a test.
@@ -44,23 +47,19 @@ if_and_false false b x e = refl
 -- Sums over a list.
 
 module _ {X : Type 0} where
-  pub all_of : (P : X → Type 0) → ((x : X) → P x) → (xs : List X) → AllByRecursion P xs
-  all_of P h [] = tt
-  all_of P h (x ∷ xs) = (h x, all_of P h xs)
-
   pub total_le : (f g : X → ℕ) (xs : List X) → AllByRecursion (λ x. f x ≤ g x) xs → total f xs ≤ total g xs
   total_le f g [] h = omega arith
   total_le f g (x ∷ xs) h = omega (arith, total_le f g xs h.1)
 
   pub total_le_each : (f g : X → ℕ) (xs : List X) → ((x : X) → f x ≤ g x) → total f xs ≤ total g xs
-  total_le_each f g xs h = total_le f g xs (all_of (λ x. f x ≤ g x) h xs)
+  total_le_each f g xs h = total_le f g xs (recursion_from_All _ xs (λ k d _. h (get_or xs k d)))
 
   pub total_same : (f g : X → ℕ) (xs : List X) → AllByRecursion (λ x. f x ≡ g x) xs → total f xs ≡ total g xs
   total_same f g [] h = refl
   total_same f g (x ∷ xs) h = omega (arith, total_same f g xs h.1)
 
   pub total_same_each : (f g : X → ℕ) (xs : List X) → ((x : X) → f x ≡ g x) → total f xs ≡ total g xs
-  total_same_each f g xs h = total_same f g xs (all_of (λ x. f x ≡ g x) h xs)
+  total_same_each f g xs h = total_same f g xs (recursion_from_All _ xs (λ k d _. h (get_or xs k d)))
 
   pub total_add : (f g : X → ℕ) (xs : List X) → total (λ x. f x + g x) xs ≡ total f xs + total g xs
   total_add f g [] = refl
@@ -74,3 +73,19 @@ module _ {X : Type 0} where
 pub total_swap : {X Y : Type 0} (f : X → Y → ℕ) (xs : List X) (ys : List Y) → total (λ x. total (f x) ys) xs ≡ total (λ y. total (λ x. f x y) xs) ys
 total_swap f [] ys = sym (total_none (λ y. 0) ys (λ y. refl))
 total_swap f (x ∷ xs) ys = ap (λ n. total (f x) ys + n) (total_swap f xs ys) ∙ sym (total_add (f x) (λ y. total (λ x. f x y) xs) ys)
+
+-- The library's sums.
+
+module _ {X : Type 0} where
+  pub total_is : (f : X → ℕ) (xs : List X) → total f xs ≡ sum_by f xs
+  total_is f = is_sum_by (total f) f refl (λ _ _. refl)
+
+  -- a sum with a test is the sum over what passes it
+  pub total_passing : (test : X → Bool) (f : X → ℕ) (xs : List X) → sum_by f (filter test xs) ≡ total (λ x. amount_if (test x) (f x)) xs
+  total_passing test f [] = refl
+  total_passing test f (x ∷ xs) = go (test x) (total_passing test f xs)
+    where
+      go : (b : Bool) → sum_by f (filter test xs) ≡ total (λ x. amount_if (test x) (f x)) xs →
+          sum_by f (cond b (x ∷ filter test xs) (filter test xs)) ≡ amount_if b (f x) + total (λ x. amount_if (test x) (f x)) xs
+      go true ih = omega (arith, sum_by-cons f x (filter test xs), ih)
+      go false ih = omega (arith, ih)

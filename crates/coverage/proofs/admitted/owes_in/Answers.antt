@@ -2,7 +2,7 @@ use Rattle.std.proofs.Common.{◌==◌, ◌∙◌, rules}
 use borrow.Author.Tests.{tests}
 use Rattle.std.proofs.lemmas.Iterator.{YieldsList-from_slice}
 use Rattle.std.proofs.lemmas.Iterator.Search.{any_from_yields_List}
-use Rattle.coverage.proofs.Running.{owes_in_is}
+use Rattle.coverage.proofs.Periods.{owes_in_is}
 use Rattle.coverage.proofs.admitted.owes_in.Goals as goal
 
 pub returns : goal.returns

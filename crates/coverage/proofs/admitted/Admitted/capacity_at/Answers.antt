@@ -1,7 +1,7 @@
 use Rattle.std.proofs.Common.{arith}
 use borrow.Author.Differences.{ints}
 use Rattle.coverage.specs.Allocation.{valid}
-use Rattle.coverage.proofs.Sums.{total_passing}
+use Rattle.coverage.proofs.Totals.{total_passing}
 use Rattle.coverage.proofs.admitted.Admitted.capacity_at.Goals as goal
 
 pub returns : goal.returns

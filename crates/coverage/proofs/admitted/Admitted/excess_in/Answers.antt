@@ -1,5 +1,5 @@
 use Rattle.std.proofs.Common.{◌==◌, ◌&&◌, nat_le, arith}
-use Rattle.coverage.proofs.Sums.{total_passing}
+use Rattle.coverage.proofs.Totals.{total_passing}
 use Rattle.coverage.proofs.admitted.Admitted.excess_in.Goals as goal
 
 pub returns : goal.returns

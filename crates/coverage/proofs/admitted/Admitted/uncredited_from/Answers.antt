@@ -3,7 +3,7 @@ use Rattle.coverage.specs.Admission.{position_of}
 use Rattle.coverage.specs.Allocation.{Position, total}
 use Rattle.coverage.specs.Capacity.{excess, owes_in, periods}
 use Rattle.coverage.proofs.Limits.{uncredited_le}
-use Rattle.coverage.proofs.Running.{periods_last}
+use Rattle.coverage.proofs.Periods.{periods_last}
 use Rattle.coverage.proofs.admitted.Admitted.uncredited_from.Goals as goal
 
 pub overflow_add-sum : goal.overflow_add-sum

@@ -4,7 +4,7 @@ use Rattle.coverage.specs.Admission.{position_of}
 use Rattle.coverage.specs.Capacity.{credit_position}
 use Rattle.coverage.proofs.Periods.{however_listed}
 use Rattle.coverage.proofs.Same.{only_sums_matter}
-use Rattle.coverage.proofs.Sums.{total_is}
+use Rattle.coverage.proofs.Totals.{total_is}
 use Rattle.coverage.proofs.position.Position.figures.Goals as goal
 
 pub returns-in_err-position-clause-rows_matter_only_by_their_sums : goal.returns-in_err-position-clause-rows_matter_only_by_their_sums
