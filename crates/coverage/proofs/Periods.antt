@@ -77,7 +77,7 @@ abbrev SameListed : List ℕ → List Debt → (ℕ → ℕ) → Type 0
 SameListed qs xs f = total f qs ≡ total f (periods xs)
 
 neither : (a b : Bool) → a ≡ false → b ≡ false → (a || b) ≡ false
-neither a b e h = ap (λ t. t || b) e ∙ h
+neither a b e h = grind arith
 
 -- one debt more: its period is another debt's too ..
 listed_again : (x : Debt) (xs : List Debt) (f : ℕ → ℕ) → owes_in xs x.period ≡ true → NothingOutside (x ∷ xs) f → NothingOutside xs f

@@ -2,6 +2,7 @@
 use Rattle.std.proofs.Common.{◌≡◌, ℕ, zero, suc, ◌+◌, ◌-◌, ◌<◌, ◌≤◌, Bool, eqb, ◌⊎◌, List, [], ◌∷◌, length, get_or, refl, ap, ◌∙◌, inl, inr, arith}
 use Rattle.std.specs.List.{AllByRecursion}
 use Rattle.std.proofs.lemmas.Bool.{eq-eqb, ne_eqb, cases_eq, cases_lt}
+use Rattle.std.proofs.lemmas.Bool.Decides.{nat_tests}
 use Rattle.coverage.specs.Allocation.{total, amount_if, Row}
 use Rattle.coverage.proofs.Totals.{if_zero, if_add, if_swap}
 
@@ -74,11 +75,7 @@ abbrev pub one_less : (ℕ → ℕ) → ℕ → ℕ → ℕ
 one_less f j k = f k - amount_if (eqb j k) 1
 
 pub one_less_is : (f : ℕ → ℕ) (j k : ℕ) → 0 < f j → f k ≡ one_less f j k + amount_if (eqb j k) 1
-one_less_is f j k h =
-    elim (cases_eq j k) [
-      | inl e ↦ omega (arith, ap f e, ap (λ b. amount_if b 1) (eq-eqb j k e))
-      | inr ne ↦ omega (arith, ap (λ b. amount_if b 1) (ne_eqb j k ne))
-    ]
+one_less_is f j k h = grind (arith, nat_tests)
 
 pub one_less_sum : (n : ℕ) (w : ℕ → Bool) (f : ℕ → ℕ) (j : ℕ) → j < n → 0 < f j →
     sum_below n (λ k. amount_if (w k) (f k)) ≡ sum_below n (λ k. amount_if (w k) (one_less f j k)) + amount_if (w j) 1

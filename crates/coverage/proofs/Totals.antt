@@ -1,6 +1,7 @@
 -- Sums over a list, of which a test may leave terms out.
 use Rattle.std.proofs.Common.{◌≡◌, ℕ, ◌+◌, ◌<◌, ◌≤◌, Bool, true, false, cond, ◌&&◌, List, [], ◌∷◌, get_or, filter, sum_by, sym, refl, ap, ◌∙◌, arith}
 use Rattle.std.specs.List.{AllByRecursion}
+use Rattle.std.proofs.lemmas.Bool.Decides.{nat_tests}
 use Rattle.std.proofs.lemmas.List.Elements.{recursion_from_All}
 use Rattle.std.proofs.lemmas.List.Recursion.{is_sum_by}
 use Rattle.std.proofs.lemmas.List.Sums.{sum_by-cons}
@@ -9,40 +10,31 @@ use Rattle.coverage.specs.Allocation.{total, amount_if}
 -- An amount under a test.
 
 pub if_zero : (b : Bool) → amount_if b 0 ≡ 0
-if_zero true = refl
-if_zero false = refl
+if_zero b = grind (arith, nat_tests)
 
 pub if_add : (b : Bool) (x y : ℕ) → amount_if b (x + y) ≡ amount_if b x + amount_if b y
-if_add true x y = refl
-if_add false x y = refl
+if_add b x y = grind (arith, nat_tests)
 
 pub if_mono : (b : Bool) (x y : ℕ) → x ≤ y → amount_if b x ≤ amount_if b y
-if_mono true x y h = h
-if_mono false x y h = omega arith
+if_mono b x y h = grind (arith, nat_tests)
 
 pub if_swap : (a b : Bool) (x : ℕ) → amount_if a (amount_if b x) ≡ amount_if b (amount_if a x)
-if_swap true b x = refl
-if_swap false b x = sym (if_zero b)
+if_swap a b x = grind (arith, nat_tests)
 
 pub if_le : (b : Bool) (x : ℕ) → amount_if b x ≤ x
-if_le true x = omega arith
-if_le false x = omega arith
+if_le b x = grind (arith, nat_tests)
 
 pub if_positive : (b : Bool) (x : ℕ) → 0 < amount_if b x → (b ≡ true) × (0 < x)
-if_positive true x h = (refl, h)
-if_positive false x h = absurd (omega arith)
+if_positive b x h = grind (arith, nat_tests)
 
 pub if_and_le : (a b : Bool) (x : ℕ) → amount_if (a && b) x ≤ amount_if a x
-if_and_le true b x = if_le b x
-if_and_le false b x = omega arith
+if_and_le a b x = grind (arith, nat_tests)
 
 pub if_and_true : (a b : Bool) (x : ℕ) → b ≡ true → amount_if (a && b) x ≡ amount_if a x
-if_and_true true b x e = ap (λ v. amount_if v x) e
-if_and_true false b x e = refl
+if_and_true a b x e = grind (arith, nat_tests)
 
 pub if_and_false : (a b : Bool) (x : ℕ) → b ≡ false → amount_if (a && b) x ≡ 0
-if_and_false true b x e = ap (λ v. amount_if v x) e
-if_and_false false b x e = refl
+if_and_false a b x e = grind (arith, nat_tests)
 
 -- Sums over a list.
 
