@@ -1,5 +1,5 @@
 -- Sums over a list, of which a test may leave terms out.
-use Rattle.std.proofs.Common.{◌≡◌, ℕ, ◌+◌, ◌<◌, ◌≤◌, Bool, true, false, cond, ◌&&◌, List, [], ◌∷◌, get_or, filter, sum_by, sym, refl, ap, ◌∙◌, arith}
+use Rattle.std.proofs.Common.{◌≡◌, ℕ, ◌+◌, ◌<◌, ◌≤◌, Bool, true, false, ◌&&◌, List, [], ◌∷◌, get_or, filter, sum_by, sym, refl, ap, ◌∙◌, arith}
 use Rattle.std.specs.List.{AllByRecursion}
 use Rattle.std.proofs.lemmas.Bool.Decides.{nat_tests}
 use Rattle.std.proofs.lemmas.List.Elements.{recursion_from_All}
@@ -75,9 +75,4 @@ module _ {X : Type 0} where
   -- a sum with a test is the sum over what passes it
   pub total_passing : (test : X → Bool) (f : X → ℕ) (xs : List X) → sum_by f (filter test xs) ≡ total (λ x. amount_if (test x) (f x)) xs
   total_passing test f [] = refl
-  total_passing test f (x ∷ xs) = go (test x) (total_passing test f xs)
-    where
-      go : (b : Bool) → sum_by f (filter test xs) ≡ total (λ x. amount_if (test x) (f x)) xs →
-          sum_by f (cond b (x ∷ filter test xs) (filter test xs)) ≡ amount_if b (f x) + total (λ x. amount_if (test x) (f x)) xs
-      go true ih = omega (arith, sum_by-cons f x (filter test xs), ih)
-      go false ih = omega (arith, ih)
+  total_passing test f (x ∷ xs) = grind (arith, nat_tests, sum_by-cons f x (filter test xs), total_passing test f xs)
