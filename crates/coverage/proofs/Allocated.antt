@@ -2,8 +2,9 @@
 -- reach what the debts of that day or later exceed the credits by.
 use Rattle.std.proofs.Common.{◌≡◌, ℕ, zero, suc, ◌+◌, ◌-◌, ◌*◌, ◌<◌, ◌≤◌, Bool, true, false, ◌&&◌, eqb, leb, List, [], ◌∷◌, sym, ap, ◌∙◌, inl, inr, arith}
 use Rattle.std.specs.List.{AllByRecursion}
-use Rattle.std.proofs.lemmas.Bool.{eq-eqb, ne_eqb, eqb-true, cases_Bool, cases_eq, cases_lt, leb-true, le-leb, lt-leb}
+use Rattle.std.proofs.lemmas.Bool.{eqb-true, cases_Bool, cases_lt, leb-true, le-leb, lt-leb}
 use Rattle.std.proofs.ByRecursion.{All-weaker}
+use Rattle.std.proofs.lemmas.Bool.Decides.{nat_tests}
 use Rattle.coverage.specs.Allocation.{Row, total, amount_if, taken, given}
 use Rattle.coverage.specs.Capacity.{times}
 use Rattle.coverage.proofs.Totals.{total_le, total_le_each, total_same_each, total_none, total_add, total_swap, if_add, if_mono, if_le, if_positive, if_and_le, if_and_true, if_and_false}
@@ -187,11 +188,7 @@ module _ (T : Terms) (a g c : ℕ → ℕ) (j : ℕ) (lj : j < T.debts) (pj : 0 
     -- at a day up to the debt's, the debt's period exceeds its credit by one grain more with the debt's grain than without
     excess_less : (d : ℕ) → d ≤ T.day j → (q : ℕ) →
         owed T a d q - credited T c q ≡ (owed T (one_less a j) d q - credited T c q) + amount_if (eqb (T.period j) q) 1
-    excess_less d by q =
-        elim (cases_eq (T.period j) q) [
-          | inl e ↦ omega (arith, owed_less d q, due_by d q by, none, ap (credited T c) e, ap (λ b. amount_if b 1) (eq-eqb (T.period j) q e))
-          | inr ne ↦ omega (arith, owed_less d q, due_by d q by, ap (λ b. amount_if b 1) (ne_eqb (T.period j) q ne))
-        ]
+    excess_less d by q = grind (arith, nat_tests, owed_less d q, due_by d q by, none)
 
     uncredited_less : (d : ℕ) → d ≤ T.day j → uncredited T a c d ≡ uncredited T (one_less a j) c d + 1
     uncredited_less d by =

@@ -1,53 +1,49 @@
--- The smallest of the days' capacities: the function form, and the loop.
-use Rattle.std.proofs.Common.{◌≡◌, ℕ, zero, suc, ◌+◌, ◌-◌, ◌<◌, ◌≤◌, Bool, true, false, cond, ◌⊎◌, ℤ, ◌≤ℤ◌, sym, refl, ap, ◌∙◌, subst, inl, inr, arith}
+-- The smallest of the days' capacities: the definition and the code are folds.
+use Rattle.std.proofs.Common.{◌≡◌, ℕ, zero, suc, ◌+◌, ◌-◌, ◌<◌, ◌≤◌, ◌⊎◌, ℤ, ◌≤ℤ◌, map, sym, refl, ap, ◌∙◌, subst, inl, inr, arith}
 use borrow.Author.Differences.{ints}
-use lib.Signed.{≤ℤ_refl, lt_z}
 use Rattle.std.specs.Int.{int_min}
-use Rattle.std.proofs.lemmas.Int.{clamps}
-use Rattle.std.proofs.lemmas.Bool.{cases_lt}
+use Rattle.std.specs.List.{fold, range_with_len}
+use Rattle.std.proofs.lemmas.Int.{fold-int_min_bounds, fold-int_min_reached}
+use Rattle.std.proofs.lemmas.List.FromFn.{get_or-map-range_with_len, length-map-range_with_len, map-range_with_len_more}
+use Rattle.std.proofs.lemmas.List.Sums.{fold_push}
 use Rattle.coverage.specs.Allocation.{Position}
 use Rattle.coverage.specs.Capacity.{capacity_at, smallest_over, capacity, SmallestOfTheDays}
 
--- c is the smallest of f over the days that pass the bounds
-abbrev Least : (ℕ → ℤ) → ℕ → ℕ → ℤ → Type 0
-Least f first last c = ((d : ℕ) → first ≤ d → d ≤ last → c ≤ℤ f d) × ((d : ℕ) × (first ≤ d) × (d ≤ last) × (f d ≡ c))
+-- a fold from one of the days over all others gives the smallest
+pub smallest_by_fold : (p : Position) (day from n : ℕ) (a c : ℤ) → p.first_day ≤ day → day ≤ p.today → p.first_day ≤ from → from + n ≤ p.today + 1 →
+    ((d : ℕ) → p.first_day ≤ d → d ≤ p.today → (day ≡ d) ⊎ ((from ≤ d) × (d < from + n))) →
+    a ≡ capacity_at p day → c ≡ fold int_min a (map (capacity_at p) (range_with_len from n)) → SmallestOfTheDays p c
+smallest_by_fold p day from n a c l u lf uf all is e =
+    let fewest = fold-int_min_bounds a (map (capacity_at p) (range_with_len from n)) c e in
+    let at = get_or-map-range_with_len (capacity_at p) from n in
+    record {
+      none_smaller = λ d f t. elim (all d f t) [
+        | inl same ↦ omega (arith, ints, fewest.0, is, ap (capacity_at p) same)
+        | inr (g, h) ↦ subst (λ (x : ℤ). c ≤ℤ x) (at (d - from) d a (omega arith) (omega arith)) (fewest.1 (d - from) a (omega (arith, length-map-range_with_len (capacity_at p) from n)))
+      ];
+      one_reaches = elim (fold-int_min_reached a (map (capacity_at p) (range_with_len from n)) c e) [
+        | inl same ↦ (day, l, u, sym is ∙ sym same)
+        | inr (k, below, reached) ↦
+            let in_range : k < n = omega (arith, length-map-range_with_len (capacity_at p) from n) in
+            (from + k, omega arith, omega arith, sym (at k (from + k) c in_range refl) ∙ reached)
+      ];
+    }
 
--- the smaller of two numbers is one of them
-min_either : (x y : ℤ) → (int_min x y ≡ x) ⊎ (int_min x y ≡ y)
-min_either x y = go (lt_z y x)
-  where
-    go : (b : Bool) → (cond b y x ≡ x) ⊎ (cond b y x ≡ y)
-    go true = inr refl
-    go false = inl refl
-
-least_over : (f : ℕ → ℤ) (first n : ℕ) → Least f first (first + n) (smallest_over f first n)
+smallest_over_is : (f : ℕ → ℤ) (first n : ℕ) → smallest_over f first n ≡ fold int_min (f first) (map f (range_with_len (first + 1) n))
 unfolding smallest_over
-least_over f first zero = ((λ d l u. subst (λ (x : ℕ). f first ≤ℤ f x) (omega arith) (≤ℤ_refl (f first))), (first, omega arith, omega arith, refl))
-least_over f first (suc n) = go (least_over f first n) (min_either (smallest_over f first n) (f (first + suc n)))
-  where
-    go : Least f first (first + n) (smallest_over f first n) →
-        (int_min (smallest_over f first n) (f (first + suc n)) ≡ smallest_over f first n) ⊎ (int_min (smallest_over f first n) (f (first + suc n)) ≡ f (first + suc n)) →
-        Least f first (first + suc n) (int_min (smallest_over f first n) (f (first + suc n)))
-    go h either = (below, reached either)
-      where
-        below : (d : ℕ) → first ≤ d → d ≤ first + suc n → int_min (smallest_over f first n) (f (first + suc n)) ≤ℤ f d
-        below d l u =
-            elim (cases_lt d (first + suc n)) [
-              | inl s ↦ omega (arith, ints, clamps, h.0 d l (omega arith))
-              | inr s ↦ let same : first + suc n ≡ d = omega arith in omega (arith, ints, clamps, ap f same)
-            ]
-
-        reached : (int_min (smallest_over f first n) (f (first + suc n)) ≡ smallest_over f first n) ⊎ (int_min (smallest_over f first n) (f (first + suc n)) ≡ f (first + suc n)) →
-            (d : ℕ) × (first ≤ d) × (d ≤ first + suc n) × (f d ≡ int_min (smallest_over f first n) (f (first + suc n)))
-        reached (inl e) = (h.1.0, h.1.1, omega arith, h.1.3 ∙ sym e)
-        reached (inr e) = (first + suc n, omega arith, omega arith, sym e)
+smallest_over_is f first zero = refl
+smallest_over_is f first (suc n) =
+    let one_more : n + 1 ≡ suc n = omega arith in
+    ap (λ x. int_min x (f (first + suc n))) (smallest_over_is f first n)
+    ∙ sym (fold_push int_min (f first) (map f (range_with_len (first + 1) n)) (f (first + suc n)))
+    ∙ ap (fold int_min (f first)) (sym (map-range_with_len_more f (first + 1) n (first + suc n) (omega arith)))
+    ∙ ap (λ k. fold int_min (f first) (map f (range_with_len (first + 1) k))) one_more
 
 pub capacity_is_smallest : (p : Position) → p.first_day ≤ p.today → SmallestOfTheDays p (capacity p)
 unfolding capacity
 capacity_is_smallest p h =
-    let last : p.first_day + (p.today - p.first_day) ≡ p.today = omega arith in
-    let r = subst (λ (t : ℕ). Least (capacity_at p) p.first_day t (smallest_over (capacity_at p) p.first_day (p.today - p.first_day))) last (least_over (capacity_at p) p.first_day (p.today - p.first_day)) in
-    record { none_smaller = r.0; one_reaches = r.1 }
+    smallest_by_fold p p.first_day (p.first_day + 1) (p.today - p.first_day) _ _ (omega arith) h (omega arith) (omega arith) (λ d f t. grind arith) refl
+    (smallest_over_is (capacity_at p) p.first_day (p.today - p.first_day))
 
 -- there is one smallest
 pub smallest_unique : (p : Position) (c e : ℤ) → SmallestOfTheDays p c → SmallestOfTheDays p e → c ≡ e
@@ -60,36 +56,3 @@ smallest_unique p c e s t =
       s.one_reaches.3,
       t.one_reaches.3,
     )
-
--- The loop: c is the smallest of today and of the days from the first up to the one that comes next.
-pub record LeastSoFar (p : Position) (next : ℕ) (c : ℤ) : Type 0 where
-  pub at_today : c ≤ℤ capacity_at p p.today
-  pub before : (d : ℕ) → p.first_day ≤ d → d < next → c ≤ℤ capacity_at p d
-  pub reached : (d : ℕ) × (p.first_day ≤ d) × (d ≤ p.today) × (capacity_at p d ≡ c)
-
-pub least_first : (p : Position) (c : ℤ) → p.first_day ≤ p.today → c ≡ capacity_at p p.today → LeastSoFar p p.first_day c
-least_first p c h e = record { at_today = omega (arith, ints); before = λ d l u. absurd (omega arith); reached = (p.today, h, omega arith, sym e) }
-
-pub least_more : (p : Position) (next : ℕ) (c x r : ℤ) → p.first_day ≤ next → next < p.today → LeastSoFar p next c → x ≡ capacity_at p next → r ≡ int_min c x → LeastSoFar p (next + 1) r
-least_more p next c x r l u s e is =
-    record {
-      at_today = omega (arith, ints, clamps, s.at_today);
-      before = λ d f b. elim (cases_lt d next) [
-        | inl earlier ↦ omega (arith, ints, clamps, s.before d f earlier)
-        | inr here ↦ let same : next ≡ d = omega arith in omega (arith, ints, clamps, ap (capacity_at p) same)
-      ];
-      reached = elim (min_either c x) [
-        | inl old ↦ (s.reached.0, s.reached.1, s.reached.2, s.reached.3 ∙ sym old ∙ sym is)
-        | inr new ↦ (next, l, omega arith, sym e ∙ sym new ∙ sym is)
-      ];
-    }
-
-pub least_all : (p : Position) (next : ℕ) (c : ℤ) → p.today ≤ next → LeastSoFar p next c → SmallestOfTheDays p c
-least_all p next c h s =
-    record {
-      none_smaller = λ d f t. elim (cases_lt d next) [
-        | inl earlier ↦ s.before d f earlier
-        | inr last ↦ let same : p.today ≡ d = omega arith in omega (arith, ints, s.at_today, ap (capacity_at p) same)
-      ];
-      one_reaches = s.reached;
-    }

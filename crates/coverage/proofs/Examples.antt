@@ -1,9 +1,10 @@
 -- The two worked figures.
-use Rattle.std.proofs.Common.{◌≡◌, ℕ, zero, suc, ◌+◌, ◌<◌, ◌≤◌, T, eqb, List, [], ◌∷◌, ℤ, is_some, IfSome, Some, None, Decides, Option, refl, ap, ◌∙◌, arith}
+use Rattle.std.proofs.Common.{◌≡◌, ℕ, zero, suc, ◌+◌, ◌<◌, ◌≤◌, T, eqb, List, [], ◌∷◌, ℤ, is_some, IfSome, Some, None, Decides, Option, refl, ap, ◌∙◌, rules, arith}
 use Rattle.std.specs.List.{AllByRecursion}
 use Rattle.std.proofs.lemmas.Bool.{false≢true}
+use Rattle.std.proofs.lemmas.Bool.Decides.{nat_tests}
 use Rattle.coverage.specs.Admission.{Admissible}
-use Rattle.coverage.specs.Allocation.{Position, Row, Allocation, Covers, ValidOnItsDay, OfItsPeriod, valid, amount_if, given, taken, debt_at, credit_at, guarantee_at}
+use Rattle.coverage.specs.Allocation.{Position, Row, Allocation, Covers, ValidOnItsDay, OfItsPeriod, valid, amount_if, given, taken, debt_at, guarantee_at}
 use Rattle.coverage.specs.Capacity.{capacity, smallest_over}
 use Rattle.coverage.specs.Figures.{ends_too_early, EndsTooEarly, one_credit_two_debts, credit_to_the_later, CreditForTheLater}
 
@@ -13,52 +14,17 @@ answered p None z some is fit e = absurd (false≢true (some.1 fit))
 answered p (Some c) z some is fit e = ap Some (is ∙ e)
 
 pub ends_too_early_fits : Admissible ends_too_early
-ends_too_early_fits =
-    record {
-      days_in_order = omega arith;
-      few_rows = omega arith;
-      few_guarantees = omega arith;
-      debts_in_range = ((omega arith, omega arith, omega arith), tt);
-      credits_in_range = tt;
-      guarantees_in_range = (omega arith, (omega arith, tt));
-    }
+ends_too_early_fits = search rules
 
 pub ends_too_early_is : EndsTooEarly
 unfolding capacity smallest_over
 ends_too_early_is = record { capacity_is_minus_one = refl; one_sum_would_say_four = refl }
 
 pub one_credit_two_debts_fits : Admissible one_credit_two_debts
-one_credit_two_debts_fits =
-    record {
-      days_in_order = omega arith;
-      few_rows = omega arith;
-      few_guarantees = omega arith;
-      debts_in_range = ((omega arith, omega arith, omega arith), ((omega arith, omega arith, omega arith), tt));
-      credits_in_range = (omega arith, tt);
-      guarantees_in_range = (omega arith, tt);
-    }
-
--- what holds of the places 0 and 1 holds of all places below 2, and so for 1
-below_one : (P : ℕ → Type 0) → P 0 → (k : ℕ) → k < 1 → P k
-below_one P z zero h = z
-below_one P z (suc k) h = absurd (omega arith)
-
-below_two : (P : ℕ → Type 0) → P 0 → P 1 → (k : ℕ) → k < 2 → P k
-below_two P z o zero h = z
-below_two P z o (suc zero) h = o
-below_two P z o (suc (suc k)) h = absurd (omega arith)
+one_credit_two_debts_fits = search rules
 
 to_the_later : Covers one_credit_two_debts credit_to_the_later
-to_the_later =
-    record {
-      permitted = record {
-        guarantees_in_time = ((omega arith, omega arith, tt), tt);
-        credits_in_period = ((omega arith, omega arith, refl), tt);
-        guarantees_once = below_one (λ i. taken credit_to_the_later.of_guarantees i ≤ (guarantee_at one_credit_two_debts i).worth) (omega arith);
-        credits_once = below_one (λ k. taken credit_to_the_later.of_credits k ≤ (credit_at one_credit_two_debts k).grains) (omega arith);
-      };
-      debts_in_full = below_two (λ j. given credit_to_the_later.of_guarantees j + given credit_to_the_later.of_credits j ≡ (debt_at one_credit_two_debts j).grains) refl refl;
-    }
+to_the_later = search rules
 
 -- the guarantee is not valid on the later debt's day
 no_guarantee_row : (s d n : ℕ) → s < 1 → d < 2 → T (valid (guarantee_at one_credit_two_debts s) (debt_at one_credit_two_debts d).day) → amount_if (eqb d 1) n ≡ 0
@@ -73,10 +39,7 @@ no_guarantee_late (r ∷ rows) h = omega (arith, no_guarantee_row r.source r.deb
 
 -- what the credit gives to both debts is taken from it
 credit_row : (s d n : ℕ) → s < 1 → d < 2 → amount_if (eqb d 0) n + amount_if (eqb d 1) n ≤ amount_if (eqb s 0) n
-credit_row zero zero n ls ld = omega arith
-credit_row zero (suc zero) n ls ld = omega arith
-credit_row zero (suc (suc d)) n ls ld = absurd (omega arith)
-credit_row (suc s) d n ls ld = absurd (omega arith)
+credit_row s d n ls ld = grind (arith, nat_tests)
 
 credit_to_both : (rows : List Row) → AllByRecursion (OfItsPeriod one_credit_two_debts) rows → given rows 0 + given rows 1 ≤ taken rows 0
 credit_to_both [] h = omega arith

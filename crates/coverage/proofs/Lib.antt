@@ -4,9 +4,7 @@ pub mod Periods
 pub mod Allocated
 pub mod Placed
 pub mod Meaning
-pub mod Running
 pub mod Limits
-pub mod Checks
 pub mod Days
 pub mod Examples
 pub mod Same

@@ -3,14 +3,15 @@ use Rattle.std.proofs.Common.{◌≡◌, ℕ, suc, ◌+◌, ◌<◌, ◌≤◌, 
 use borrow.Author.Differences.{ints}
 use lib.Signed.{clash_ℤ}
 use Rattle.std.specs.List.{AllZip, AllByRecursion}
-use Rattle.std.proofs.lemmas.Bool.{le-leb, ne_eqb, eq-eqb, cond-false, or_from}
+use Rattle.std.proofs.lemmas.Bool.{eq-eqb, cond-false}
 use Rattle.std.proofs.ByRecursion.{All-weaker, All-get_or}
+use Rattle.std.proofs.lemmas.Bool.Decides.{nat_tests}
 use Rattle.coverage.specs.declared.rows.Debt.{Debt}
 use Rattle.coverage.specs.declared.rows.Credit.{Credit}
 use Rattle.coverage.specs.Allocation.{Position, Coverable, debt_at, no_debt, total, amount_if}
 use Rattle.coverage.specs.Capacity.{owed, credited, excess, owes_in, periods, uncredited, times, ListedOnce, capacity_at, SmallestOfTheDays}
 use Rattle.coverage.specs.Meaning.{Dated, CoveredExactlyFromZero, BelowZeroNoneCovers, UnusedPeriod, LargestFurtherDebt, SmallestFurtherGuarantee, AtMost, SmallerDebtsStayCovered, with_debt, with_guarantee, with_debts}
-use Rattle.coverage.proofs.Totals.{total_same, total_le_each, if_mono, if_and_le, if_and_true}
+use Rattle.coverage.proofs.Totals.{total_same, total_le_each, if_mono}
 use Rattle.coverage.proofs.Periods.{times_periods, periods_once, owed_nowhere, however_listed}
 use Rattle.coverage.proofs.Placed.{needed, enough}
 
@@ -51,11 +52,11 @@ smallest_further_guarantee p c dated least n e =
 -- where no row is of a period, there is no debt and no credit in it
 no_debt_in : (q : ℕ) (xs : List Debt) → AllByRecursion (λ x. x.period ≡ q → ⊥) xs → owes_in xs q ≡ false
 no_debt_in q [] h = refl
-no_debt_in q (x ∷ xs) h = or_from (eqb x.period q) (owes_in xs q) (ne_eqb x.period q h.0) (no_debt_in q xs h.1)
+no_debt_in q (x ∷ xs) h = grind (arith, nat_tests, no_debt_in q xs h.1, h.0)
 
 no_credit_in : (q : ℕ) (cs : List Credit) → AllByRecursion (λ c. c.period ≡ q → ⊥) cs → credited cs q ≡ 0
 no_credit_in q [] h = refl
-no_credit_in q (c ∷ cs) h = omega (arith, no_credit_in q cs h.1, ap (λ t. amount_if t c.grains) (ne_eqb c.period q h.0))
+no_credit_in q (c ∷ cs) h = grind (arith, nat_tests, no_credit_in q cs h.1, h.0)
 
 -- a period that stands nowhere in a list of periods differs from each of them
 differ : (q : ℕ) (qs : List ℕ) → times q qs ≡ 0 → AllByRecursion (λ r. q ≡ r → ⊥) qs
@@ -68,18 +69,11 @@ module _ (p : Position) (q : ℕ) (unused : UnusedPeriod p q) (n : ℕ) where
 
   -- in another period nothing changes
   excess_elsewhere : (d r : ℕ) → (q ≡ r → ⊥) → excess (with_debt p q n) d r ≡ excess p d r
-  excess_elsewhere d r ne = omega (arith, if_and_le (eqb q r) (leb d p.today) n, ap (λ t. amount_if t n) (ne_eqb q r ne))
+  excess_elsewhere d r ne = grind (arith, nat_tests)
 
   -- in its own period, the debt exceeds the credit whole
   excess_there : (d : ℕ) → d ≤ p.today → excess (with_debt p q n) d q ≡ n
-  excess_there d by =
-      omega (
-        arith,
-        owed_nowhere p.debts d q not_owed,
-        no_credit_in q p.credits unused.no_credits,
-        if_and_true (eqb q q) (leb d p.today) n (le-leb d p.today by),
-        ap (λ t. amount_if t n) (eq-eqb q q refl),
-      )
+  excess_there d by = grind (arith, nat_tests, owed_nowhere p.debts d q not_owed, no_credit_in q p.credits unused.no_credits)
 
   uncredited_more : (d : ℕ) → d ≤ p.today → uncredited (with_debt p q n) d ≡ n + uncredited p d
   uncredited_more d by =

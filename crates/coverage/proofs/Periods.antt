@@ -1,10 +1,21 @@
 -- Sums over the settlement periods of a list of debts.
-use Rattle.std.proofs.Common.{◌≡◌, ℕ, ◌+◌, ◌*◌, Bool, true, false, cond, ◌||◌, eqb, leb, List, [], ◌∷◌, sym, refl, ap, ◌∙◌, inl, inr, arith}
-use Rattle.std.proofs.lemmas.Bool.{eq-eqb, ne_eqb, eqb-true, eqb-false, cases_eq, both_ways, or_parts, or_right}
+use Rattle.std.proofs.Common.{◌≡◌, ℕ, ◌+◌, ◌*◌, Bool, true, false, cond, ◌||◌, ◌==◌, eqb, leb, List, [], ◌∷◌, sym, refl, ap, ◌∙◌, arith}
+use Rattle.std.proofs.lemmas.Bool.{eq-eqb, ne_eqb, eqb-true, eqb-false, or_parts, or_right, cond-false}
+use Rattle.std.specs.List.{list_any}
+use Rattle.std.proofs.lemmas.Bool.Decides.{nat_tests}
 use Rattle.coverage.specs.declared.rows.Debt.{Debt}
 use Rattle.coverage.specs.Allocation.{Position, total, amount_if}
 use Rattle.coverage.specs.Capacity.{owed, excess, owes_in, periods, times, ListedOnce, HoweverListed}
 use Rattle.coverage.proofs.Totals.{total_none, if_and_le}
+
+-- owes_in asks each debt
+pub owes_in_is : (xs : List Debt) (q : ℕ) → list_any (λ x. x.period == q) xs ≡ owes_in xs q
+owes_in_is [] q = refl
+owes_in_is (x ∷ xs) q = ap (λ t. (x.period == q) || t) (owes_in_is xs q)
+
+-- a period that no later debt is of stands at the debt's place
+pub periods_last : (x : Debt) (xs : List Debt) → owes_in xs x.period ≡ false → periods (x ∷ xs) ≡ x.period ∷ periods xs
+periods_last x xs last = cond-false (owes_in xs x.period) (periods xs) (x.period ∷ periods xs) last
 
 -- a period that something is owed in stands in the list once, any other not at all
 pub times_periods : (xs : List Debt) (q : ℕ) → times q (periods xs) ≡ amount_if (owes_in xs q) 1
@@ -39,11 +50,7 @@ periods_once xs = go xs (λ x h. times_periods xs x.period ∙ ap (λ t. amount_
 -- a period that stands so often in a list is met so often
 pub total_times : (q n : ℕ) (qs : List ℕ) → total (λ r. amount_if (eqb q r) n) qs ≡ times q qs * n
 total_times q n [] = omega arith
-total_times q n (r ∷ qs) = go (eqb q r) (total_times q n qs)
-  where
-    go : (b : Bool) → total (λ r. amount_if (eqb q r) n) qs ≡ times q qs * n → amount_if b n + total (λ r. amount_if (eqb q r) n) qs ≡ (amount_if b 1 + times q qs) * n
-    go true ih = omega (arith, ih)
-    go false ih = omega (arith, ih)
+total_times q n (r ∷ qs) = grind (arith, nat_tests, total_times q n qs)
 
 -- A sum over a list of periods, with one period taken out.
 
@@ -52,12 +59,7 @@ without q f r = cond (eqb q r) 0 (f r)
 
 total_without : (q : ℕ) (f : ℕ → ℕ) (qs : List ℕ) → total f qs ≡ total (without q f) qs + times q qs * f q
 total_without q f [] = omega arith
-total_without q f (r ∷ qs) = go (eqb q r) refl (total_without q f qs)
-  where
-    go : (b : Bool) → eqb q r ≡ b → total f qs ≡ total (without q f) qs + times q qs * f q →
-        f r + total f qs ≡ cond b 0 (f r) + total (without q f) qs + (amount_if b 1 + times q qs) * f q
-    go true e ih = omega (arith, ih, ap f (eqb-true q r e))
-    go false e ih = omega (arith, ih)
+total_without q f (r ∷ qs) = grind (arith, nat_tests, total_without q f qs)
 
 -- f gives nothing in a period in which nothing is owed
 abbrev NothingOutside : List Debt → (ℕ → ℕ) → Type 0
@@ -67,23 +69,15 @@ abbrev SameListed : List ℕ → List Debt → (ℕ → ℕ) → Type 0
 SameListed qs xs f = total f qs ≡ total f (periods xs)
 
 neither : (a b : Bool) → a ≡ false → b ≡ false → (a || b) ≡ false
-neither a b e h = ap (λ t. t || b) e ∙ h
+neither a b e h = grind arith
 
 -- one debt more: its period is another debt's too ..
 listed_again : (x : Debt) (xs : List Debt) (f : ℕ → ℕ) → owes_in xs x.period ≡ true → NothingOutside (x ∷ xs) f → NothingOutside xs f
-listed_again x xs f h z r n =
-    elim (cases_eq x.period r) [
-      | inl e ↦ absurd (both_ways (owes_in xs x.period) (ap (owes_in xs) e ∙ n) h)
-      | inr ne ↦ z r (neither (eqb x.period r) (owes_in xs r) (ne_eqb x.period r ne) n)
-    ]
+listed_again x xs f h z r n = grind (arith, nat_tests, z r)
 
 -- .. or it is new, and f without it gives nothing outside of the others' periods
 listed_first : (x : Debt) (xs : List Debt) (f : ℕ → ℕ) → NothingOutside (x ∷ xs) f → NothingOutside xs (without x.period f)
-listed_first x xs f z r n = pick (eqb x.period r) refl
-  where
-    pick : (b : Bool) → eqb x.period r ≡ b → ◌≡◌ {A = ℕ} (cond b 0 (f r)) 0
-    pick true e = refl
-    pick false e = z r (neither (eqb x.period r) (owes_in xs r) e n)
+listed_first x xs f z r n = grind (arith, nat_tests, z r)
 
 -- the sum of what is 0 outside of the debts' periods is the same over every list that has each of these once
 any_listing : (xs : List Debt) (qs : List ℕ) → ListedOnce qs xs → (f : ℕ → ℕ) → NothingOutside xs f → SameListed qs xs f

@@ -1,7 +1,8 @@
 -- From the lists of a position to amounts by place, and back.
-use Rattle.std.proofs.Common.{◌≡◌, ℕ, ◌-◌, ◌<◌, ◌≤◌, Bool, true, false, ◌&&◌, T, eqb, leb, length, Some, None, Option, sym, refl, subst, ap₂, arith}
-use Rattle.std.proofs.lemmas.Bool.{leb-true, le-leb}
+use Rattle.std.proofs.Common.{◌≡◌, ℕ, ◌-◌, ◌<◌, ◌≤◌, Bool, true, false, ◌&&◌, T, eqb, leb, length, Option, refl, ap₂, arith}
+use Rattle.std.proofs.lemmas.Float.{T_from_true}
 use Rattle.std.proofs.ByRecursion.{All-weaker, All-get_or}
+use Rattle.std.proofs.lemmas.Bool.Decides.{nat_tests}
 use Rattle.coverage.specs.Allocation.{Position, Coverable, ValidOnItsDay, valid, valid_up_to, amount_if, debt_at, credit_at, guarantee_at, no_debt, no_credit, no_guarantee}
 use Rattle.coverage.specs.Capacity.{guaranteed, excess, periods, uncredited, times}
 use Rattle.coverage.proofs.Totals.{total_same_each}
@@ -11,15 +12,11 @@ use Rattle.coverage.proofs.Allocated as by_place
 
 -- what is valid on a day is valid on every day before
 pub valid_before : (last : Option ℕ) (s t : ℕ) → s ≤ t → valid_up_to last t ≡ true → valid_up_to last s ≡ true
-valid_before None s t h e = refl
-valid_before (Some z) s t h e = le-leb s z (omega (arith, leb-true t z e))
+valid_before last s t h e = grind (arith, nat_tests)
 
 T_true : (b : Bool) → T b → b ≡ true
 T_true true h = refl
 T_true false h = absurd h
-
-true_T : (b : Bool) → b ≡ true → T b
-true_T b e = subst T (sym e) tt
 
 module _ (p : Position) where
   abbrev terms : by_place.Terms
@@ -75,7 +72,7 @@ module _ (p : Position) where
     record {
       permitted = record {
         guarantees_in_time = All-weaker (by_place.InTime terms) (ValidOnItsDay p)
-            (λ r h. (h.0, h.1, true_T (valid (guarantee_at p r.source) (debt_at p r.debt).day) h.2)) A.gs A.in_time;
+            (λ r h. (h.0, h.1, T_from_true (valid (guarantee_at p r.source) (debt_at p r.debt).day) h.2)) A.gs A.in_time;
         credits_in_period = A.in_period;
         guarantees_once = A.gs_once;
         credits_once = A.cs_once;

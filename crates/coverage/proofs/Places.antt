@@ -1,7 +1,8 @@
 -- Sums over the places below n, for amounts that are a function of the place.
 use Rattle.std.proofs.Common.{◌≡◌, ℕ, zero, suc, ◌+◌, ◌-◌, ◌<◌, ◌≤◌, Bool, eqb, ◌⊎◌, List, [], ◌∷◌, length, get_or, refl, ap, ◌∙◌, inl, inr, arith}
 use Rattle.std.specs.List.{AllByRecursion}
-use Rattle.std.proofs.lemmas.Bool.{eq-eqb, ne_eqb, cases_eq, cases_lt}
+use Rattle.std.proofs.lemmas.Bool.{cases_lt}
+use Rattle.std.proofs.lemmas.Bool.Decides.{nat_tests}
 use Rattle.coverage.specs.Allocation.{total, amount_if, Row}
 use Rattle.coverage.proofs.Totals.{if_zero, if_add, if_swap}
 
@@ -46,19 +47,7 @@ term_le (suc n) f j h = elim (either n j h) [ inl e ↦ omega (arith, ap f e) | 
 -- where only one term is left, the sum is that term
 pub below_at : (n : ℕ) (f : ℕ → ℕ) (j : ℕ) → j < n → sum_below n (λ k. amount_if (eqb j k) (f k)) ≡ f j
 below_at zero f j h = absurd (omega arith)
-below_at (suc n) f j h = elim (cases_eq j n) [ inl e ↦ here e | inr ne ↦ there ne (below_at n f j (omega arith)) ]
-  where
-    here : j ≡ n → sum_below (suc n) (λ k. amount_if (eqb j k) (f k)) ≡ f j
-    here e =
-        omega (
-          arith,
-          below_none n (λ k. amount_if (eqb j k) (f k)) (λ k l. ap (λ b. amount_if b (f k)) (ne_eqb j k (omega arith))),
-          ap (λ b. amount_if b (f n)) (eq-eqb j n e),
-          ap f e,
-        )
-
-    there : (j ≡ n → ⊥) → sum_below n (λ k. amount_if (eqb j k) (f k)) ≡ f j → sum_below (suc n) (λ k. amount_if (eqb j k) (f k)) ≡ f j
-    there ne ih = omega (arith, ih, ap (λ b. amount_if b (f n)) (ne_eqb j n ne))
+below_at (suc n) f j h = grind (arith, nat_tests, below_none n (λ k. amount_if (eqb j k) (f k)), below_at n f j)
 
 -- a sum above 0 has a term above 0
 pub some_term : (n : ℕ) (f : ℕ → ℕ) → 0 < sum_below n f → (k : ℕ) × (k < n) × (0 < f k)
@@ -74,11 +63,7 @@ abbrev pub one_less : (ℕ → ℕ) → ℕ → ℕ → ℕ
 one_less f j k = f k - amount_if (eqb j k) 1
 
 pub one_less_is : (f : ℕ → ℕ) (j k : ℕ) → 0 < f j → f k ≡ one_less f j k + amount_if (eqb j k) 1
-one_less_is f j k h =
-    elim (cases_eq j k) [
-      | inl e ↦ omega (arith, ap f e, ap (λ b. amount_if b 1) (eq-eqb j k e))
-      | inr ne ↦ omega (arith, ap (λ b. amount_if b 1) (ne_eqb j k ne))
-    ]
+one_less_is f j k h = grind (arith, nat_tests)
 
 pub one_less_sum : (n : ℕ) (w : ℕ → Bool) (f : ℕ → ℕ) (j : ℕ) → j < n → 0 < f j →
     sum_below n (λ k. amount_if (w k) (f k)) ≡ sum_below n (λ k. amount_if (w k) (one_less f j k)) + amount_if (w j) 1

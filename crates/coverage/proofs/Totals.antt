@@ -1,67 +1,57 @@
 -- Sums over a list, of which a test may leave terms out.
-use Rattle.std.proofs.Common.{◌≡◌, ℕ, ◌+◌, ◌*◌, ◌<◌, ◌≤◌, Bool, true, false, ◌&&◌, List, [], ◌∷◌, length, get_or, drop, sym, refl, ap, ◌∙◌, arith}
+use Rattle.std.proofs.Common.{◌≡◌, ℕ, ◌+◌, ◌<◌, ◌≤◌, Bool, true, false, ◌&&◌, List, [], ◌∷◌, get_or, filter, sum_by, sym, refl, ap, ◌∙◌, arith}
 use Rattle.std.specs.List.{AllByRecursion}
-use Rattle.std.proofs.lemmas.List.{drop_more, drop_all}
+use Rattle.std.proofs.lemmas.Bool.Decides.{nat_tests}
+use Rattle.std.proofs.lemmas.List.Elements.{recursion_from_All}
+use Rattle.std.proofs.lemmas.List.Recursion.{is_sum_by}
+use Rattle.std.proofs.lemmas.List.Sums.{sum_by-cons}
 use Rattle.coverage.specs.Allocation.{total, amount_if}
 
 -- An amount under a test.
 
 pub if_zero : (b : Bool) → amount_if b 0 ≡ 0
-if_zero true = refl
-if_zero false = refl
+if_zero b = grind (arith, nat_tests)
 
 pub if_add : (b : Bool) (x y : ℕ) → amount_if b (x + y) ≡ amount_if b x + amount_if b y
-if_add true x y = refl
-if_add false x y = refl
+if_add b x y = grind (arith, nat_tests)
 
 pub if_mono : (b : Bool) (x y : ℕ) → x ≤ y → amount_if b x ≤ amount_if b y
-if_mono true x y h = h
-if_mono false x y h = omega arith
+if_mono b x y h = grind (arith, nat_tests)
 
 pub if_swap : (a b : Bool) (x : ℕ) → amount_if a (amount_if b x) ≡ amount_if b (amount_if a x)
-if_swap true b x = refl
-if_swap false b x = sym (if_zero b)
+if_swap a b x = grind (arith, nat_tests)
 
 pub if_le : (b : Bool) (x : ℕ) → amount_if b x ≤ x
-if_le true x = omega arith
-if_le false x = omega arith
+if_le b x = grind (arith, nat_tests)
 
 pub if_positive : (b : Bool) (x : ℕ) → 0 < amount_if b x → (b ≡ true) × (0 < x)
-if_positive true x h = (refl, h)
-if_positive false x h = absurd (omega arith)
+if_positive b x h = grind (arith, nat_tests)
 
 pub if_and_le : (a b : Bool) (x : ℕ) → amount_if (a && b) x ≤ amount_if a x
-if_and_le true b x = if_le b x
-if_and_le false b x = omega arith
+if_and_le a b x = grind (arith, nat_tests)
 
 pub if_and_true : (a b : Bool) (x : ℕ) → b ≡ true → amount_if (a && b) x ≡ amount_if a x
-if_and_true true b x e = ap (λ v. amount_if v x) e
-if_and_true false b x e = refl
+if_and_true a b x e = grind (arith, nat_tests)
 
 pub if_and_false : (a b : Bool) (x : ℕ) → b ≡ false → amount_if (a && b) x ≡ 0
-if_and_false true b x e = ap (λ v. amount_if v x) e
-if_and_false false b x e = refl
+if_and_false a b x e = grind (arith, nat_tests)
 
 -- Sums over a list.
 
 module _ {X : Type 0} where
-  pub all_of : (P : X → Type 0) → ((x : X) → P x) → (xs : List X) → AllByRecursion P xs
-  all_of P h [] = tt
-  all_of P h (x ∷ xs) = (h x, all_of P h xs)
-
   pub total_le : (f g : X → ℕ) (xs : List X) → AllByRecursion (λ x. f x ≤ g x) xs → total f xs ≤ total g xs
   total_le f g [] h = omega arith
   total_le f g (x ∷ xs) h = omega (arith, total_le f g xs h.1)
 
   pub total_le_each : (f g : X → ℕ) (xs : List X) → ((x : X) → f x ≤ g x) → total f xs ≤ total g xs
-  total_le_each f g xs h = total_le f g xs (all_of (λ x. f x ≤ g x) h xs)
+  total_le_each f g xs h = total_le f g xs (recursion_from_All _ xs (λ k d _. h (get_or xs k d)))
 
   pub total_same : (f g : X → ℕ) (xs : List X) → AllByRecursion (λ x. f x ≡ g x) xs → total f xs ≡ total g xs
   total_same f g [] h = refl
   total_same f g (x ∷ xs) h = omega (arith, total_same f g xs h.1)
 
   pub total_same_each : (f g : X → ℕ) (xs : List X) → ((x : X) → f x ≡ g x) → total f xs ≡ total g xs
-  total_same_each f g xs h = total_same f g xs (all_of (λ x. f x ≡ g x) h xs)
+  total_same_each f g xs h = total_same f g xs (recursion_from_All _ xs (λ k d _. h (get_or xs k d)))
 
   pub total_add : (f g : X → ℕ) (xs : List X) → total (λ x. f x + g x) xs ≡ total f xs + total g xs
   total_add f g [] = refl
@@ -71,19 +61,18 @@ module _ {X : Type 0} where
   total_none f [] h = refl
   total_none f (x ∷ xs) h = omega (arith, total_none f xs h, h x)
 
-  -- terms of a range
-  pub total_range : (f : X → ℕ) (most : ℕ) (xs : List X) → AllByRecursion (λ x. f x ≤ most) xs → total f xs ≤ length xs * most
-  total_range f most [] h = omega arith
-  total_range f most (x ∷ xs) h = omega (arith, total_range f most xs h.1, h.0)
-
-  -- a running sum, one element further and at the end
-  pub total_drop_more : (f : X → ℕ) (xs : List X) (i : ℕ) (d : X) → i < length xs → total f (drop i xs) ≡ f (get_or xs i d) + total f (drop (i + 1) xs)
-  total_drop_more f xs i d h = ap (total f) (drop_more xs i d h)
-
-  pub total_drop_all : (f : X → ℕ) (xs : List X) (i : ℕ) → length xs ≤ i → total f (drop i xs) ≡ 0
-  total_drop_all f xs i h = ap (total f) (drop_all i xs h)
-
 -- a sum over two lists, in either order
 pub total_swap : {X Y : Type 0} (f : X → Y → ℕ) (xs : List X) (ys : List Y) → total (λ x. total (f x) ys) xs ≡ total (λ y. total (λ x. f x y) xs) ys
 total_swap f [] ys = sym (total_none (λ y. 0) ys (λ y. refl))
 total_swap f (x ∷ xs) ys = ap (λ n. total (f x) ys + n) (total_swap f xs ys) ∙ sym (total_add (f x) (λ y. total (λ x. f x y) xs) ys)
+
+-- The library's sums.
+
+module _ {X : Type 0} where
+  pub total_is : (f : X → ℕ) (xs : List X) → total f xs ≡ sum_by f xs
+  total_is f = is_sum_by (total f) f refl (λ _ _. refl)
+
+  -- a sum with a test is the sum over what passes it
+  pub total_passing : (test : X → Bool) (f : X → ℕ) (xs : List X) → sum_by f (filter test xs) ≡ total (λ x. amount_if (test x) (f x)) xs
+  total_passing test f [] = refl
+  total_passing test f (x ∷ xs) = grind (arith, nat_tests, sum_by-cons f x (filter test xs), total_passing test f xs)

@@ -2,11 +2,10 @@
 ghost use Rattle.std.specs.Prelude.{◌≡◌, ℕ, is_some, IfSome, Decides};
 ghost use Rattle.coverage.specs.Admission.{Admissible, position_of};
 ghost use Rattle.coverage.specs.Allocation.{Coverable};
-ghost use Rattle.coverage.specs.Capacity.{exposure, credit_position, capacity_at, capacity, HoweverListed, SmallestOfTheDays};
+ghost use Rattle.coverage.specs.Capacity.{exposure, credit_position, capacity, HoweverListed, SmallestOfTheDays};
 ghost use Rattle.coverage.specs.Meaning.{CoveredExactlyFromZero, BelowZeroNoneCovers, LargestFurtherDebt, SmallestFurtherGuarantee, SmallerDebtsStayCovered, OnlySumsMatter};
 
 use crate::position::Position;
-use crate::sums::{credited_in_all, guaranteed_on, uncredited_from};
 
 /// What a participant is answered, in grains.
 #[derive(Clone, Copy, Drop)]
@@ -26,13 +25,11 @@ impl Position<'_> {
         ensures rows_matter_only_by_their_sums { OnlySumsMatter (position_of self.now) }
         ensures periods_may_be_listed_in_any_way { (day : ℕ) → HoweverListed (position_of self.now) day }
     {
-        if !self.is_admissible() {
-            return None;
-        }
+        let position = self.admitted()?;
         Some(Figures {
-            exposure: exposure_of(self),
-            credit_position: credited_in_all(self.credits) as i64,
-            capacity: capacity_of(self),
+            exposure: position.exposure(),
+            credit_position: position.credited() as i64,
+            capacity: position.capacity(),
         })
     }
 
@@ -46,11 +43,7 @@ impl Position<'_> {
         ensures from_zero_it_is_the_largest_further_debt { IfSome result (LargestFurtherDebt (position_of self.now)) }
         ensures below_zero_its_opposite_is_the_smallest_further_guarantee { IfSome result (SmallestFurtherGuarantee (position_of self.now)) }
     {
-        if self.is_admissible() {
-            Some(capacity_of(self))
-        } else {
-            None
-        }
+        Some(self.admitted()?.capacity())
     }
 
     /// Whether some allocation covers the debts; none where the position is past the limits.
@@ -59,38 +52,6 @@ impl Position<'_> {
         ensures yes_exactly_when_an_allocation_covers { IfSome result (λ yes. Decides yes (Coverable (position_of self.now))) }
         ensures smaller_debts_stay_covered { SmallerDebtsStayCovered (position_of self.now) }
     {
-        if self.is_admissible() {
-            Some(capacity_of(self) >= 0)
-        } else {
-            None
-        }
+        self.capacity().map(|capacity| capacity >= 0)
     }
-}
-
-/// Minus what all debts exceed the credits by: every debt is of day 0 or later.
-fn exposure_of(position: &Position) -> i64
-    requires admissible { Admissible (position_of position.now) }
-    ensures minus_debts_above_credit { result ≡ exposure (position_of position.now) }
-{
-    -(uncredited_from(position, 0) as i64)
-}
-
-/// What the guarantees valid on a day leave after the debts of that day or later.
-fn capacity_at(position: &Position, day: u32) -> i64
-    requires admissible { Admissible (position_of position.now) }
-    ensures valid_guarantees_less_debts_above_credit { result ≡ capacity_at (position_of position.now) day }
-{
-    guaranteed_on(position.guarantees, day) as i64 - uncredited_from(position, day) as i64
-}
-
-/// The smallest capacity of the days from the first to today.
-fn capacity_of(position: &Position) -> i64
-    requires admissible { Admissible (position_of position.now) }
-    ensures smallest_of_the_days { SmallestOfTheDays (position_of position.now) result }
-{
-    let mut least = capacity_at(position, position.today);
-    for day in position.first_day..position.today {
-        least = least.min(capacity_at(position, day));
-    }
-    least
 }

@@ -2,10 +2,10 @@
 //! Nothing here knows a price, a market rule or a table.
 #![tactic(auto)]
 
+mod admitted;
 mod figures;
 mod position;
 mod rows;
-mod sums;
 mod worked;
 
 pub use figures::Figures;

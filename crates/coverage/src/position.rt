@@ -29,9 +29,9 @@ impl Position<'_> {
         ensures exactly_when_within_the_limits { Decides result (Admissible (position_of self.now)) }
     {
         self.is_small()
-            && are_debts_admissible(self.debts, self.first_day, self.today)
-            && are_credits_admissible(self.credits)
-            && are_guarantees_admissible(self.guarantees)
+            && self.debts_in_range()
+            && self.credits_in_range()
+            && self.guarantees_in_range()
     }
 
     /// Whether its lists are short enough, and its first day not after today.
@@ -41,41 +41,30 @@ impl Position<'_> {
             × (length self.now.guarantees.now ≤ 64)) }
     {
         self.first_day <= self.today
-            && self.debts.len() <= ROWS
-            && self.credits.len() <= ROWS - self.debts.len()
+            && self.debts.len() + self.credits.len() <= ROWS
             && self.guarantees.len() <= GUARANTEES
     }
-}
 
-fn are_debts_admissible(debts: &[Debt], first_day: u32, today: u32) -> bool
-    ensures each_of_a_day_and_amount_in_range { Decides result (AllByRecursion (λ x. (first_day ≤ x.day) × (x.day ≤ today) × (x.grains ≤ 32000000000000000)) debts.now) }
-{
-    for debt in debts {
-        if debt.day < first_day || debt.day > today || debt.grains > GRAINS {
-            return false;
-        }
+    fn debts_in_range(&self) -> bool
+        ensures each_of_a_day_and_amount_in_range { Decides result (AllByRecursion (λ x. (self.now.first_day ≤ x.day) × (x.day ≤ self.now.today) × (x.grains ≤ 32000000000000000)) self.now.debts.now) }
+    {
+        let days = self.first_day..=self.today;
+        self.debts
+            .iter()
+            .all(|debt| days.contains(&debt.day) && debt.grains <= GRAINS)
     }
-    true
-}
 
-fn are_credits_admissible(credits: &[Credit]) -> bool
-    ensures each_amount_in_range { Decides result (AllByRecursion (λ c. c.grains ≤ 32000000000000000) credits.now) }
-{
-    for credit in credits {
-        if credit.grains > GRAINS {
-            return false;
-        }
+    fn credits_in_range(&self) -> bool
+        ensures each_amount_in_range { Decides result (AllByRecursion (λ c. c.grains ≤ 32000000000000000) self.now.credits.now) }
+    {
+        self.credits.iter().all(|credit| credit.grains <= GRAINS)
     }
-    true
-}
 
-fn are_guarantees_admissible(guarantees: &[Guarantee]) -> bool
-    ensures each_worth_in_range { Decides result (AllByRecursion (λ g. g.worth ≤ 10000000000000000) guarantees.now) }
-{
-    for guarantee in guarantees {
-        if guarantee.worth > WORTH {
-            return false;
-        }
+    fn guarantees_in_range(&self) -> bool
+        ensures each_worth_in_range { Decides result (AllByRecursion (λ g. g.worth ≤ 10000000000000000) self.now.guarantees.now) }
+    {
+        self.guarantees
+            .iter()
+            .all(|guarantee| guarantee.worth <= WORTH)
     }
-    true
 }

@@ -10,25 +10,23 @@ pub fn guarantee_that_ends_too_early() -> Option<i64>
     ensures lacks_one { result ≡ Some (negsuc 0) }
     ensures one_sum_would_be_wrong { EndsTooEarly }
 {
-    let debts = [Debt {
-        day: 2,
-        period: 0,
-        grains: 6,
-    }];
-    let guarantees = [
-        Guarantee {
-            last: Some(1),
-            worth: 5,
-        },
-        Guarantee {
-            last: None,
-            worth: 5,
-        },
-    ];
     let position = Position {
-        debts: &debts,
+        debts: &[Debt {
+            day: 2,
+            period: 0,
+            grains: 6,
+        }],
         credits: &[],
-        guarantees: &guarantees,
+        guarantees: &[
+            Guarantee {
+                last: Some(1),
+                worth: 5,
+            },
+            Guarantee {
+                last: None,
+                worth: 5,
+            },
+        ],
         first_day: 0,
         today: 2,
     };
@@ -40,30 +38,27 @@ pub fn credit_for_the_later_debt() -> Option<i64>
     ensures nothing_left_and_nothing_lacking { result ≡ Some (pos 0) }
     ensures credit_for_the_earlier_would_fail { CreditForTheLater }
 {
-    let debts = [
-        Debt {
-            day: 1,
-            period: 0,
-            grains: 2,
-        },
-        Debt {
-            day: 2,
-            period: 0,
-            grains: 2,
-        },
-    ];
-    let credits = [Credit {
-        period: 0,
-        grains: 2,
-    }];
-    let guarantees = [Guarantee {
-        last: Some(1),
-        worth: 2,
-    }];
     let position = Position {
-        debts: &debts,
-        credits: &credits,
-        guarantees: &guarantees,
+        debts: &[
+            Debt {
+                day: 1,
+                period: 0,
+                grains: 2,
+            },
+            Debt {
+                day: 2,
+                period: 0,
+                grains: 2,
+            },
+        ],
+        credits: &[Credit {
+            period: 0,
+            grains: 2,
+        }],
+        guarantees: &[Guarantee {
+            last: Some(1),
+            worth: 2,
+        }],
         first_day: 0,
         today: 2,
     };

@@ -11,32 +11,54 @@ const FIRST_DAY: u32 = 0;
 
 const TODAY: u32 = 2;
 
+/// How many grains a source can give to each of the two debts: none, one or two.
+const SHARES: [[u8; 2]; 9] = [
+    [0, 0],
+    [1, 0],
+    [2, 0],
+    [0, 1],
+    [1, 1],
+    [2, 1],
+    [0, 2],
+    [1, 2],
+    [2, 2],
+];
+
+/// A guarantee or a credit.
+trait Source {
+    /// How many grains it has to give.
+    fn grains(&self) -> u64;
+
+    /// Whether it may give them to this debt.
+    fn may_meet(&self, debt: &Debt) -> bool;
+}
+
+impl Source for Guarantee {
+    fn grains(&self) -> u64 {
+        self.worth
+    }
+
+    fn may_meet(&self, debt: &Debt) -> bool {
+        self.is_valid_on(debt.day)
+    }
+}
+
+impl Source for Credit {
+    fn grains(&self) -> u64 {
+        self.grains
+    }
+
+    fn may_meet(&self, debt: &Debt) -> bool {
+        self.period == debt.period
+    }
+}
+
 /// A position of two guarantees, one credit and two debts.
 #[derive(Drop)]
 struct Case {
     guarantees: [Guarantee; 2],
     credits: [Credit; 1],
     debts: [Debt; 2],
-}
-
-/// How many grains one source gives to each of the two debts: none, one or two.
-#[derive(Clone, Copy, Drop)]
-struct Share {
-    to_first: u8,
-    to_second: u8,
-}
-
-impl Share {
-    fn numbered(n: u8) -> Share {
-        Share {
-            to_first: n % 3,
-            to_second: n / 3 % 3,
-        }
-    }
-
-    fn in_all(&self) -> u64 {
-        u64::from(self.to_first) + u64::from(self.to_second)
-    }
 }
 
 impl Case {
@@ -57,52 +79,38 @@ impl Case {
             first_day: FIRST_DAY,
             today: TODAY,
         };
-        match position.capacity() {
-            Some(capacity) => capacity >= 0,
-            None => false,
-        }
+        position.capacity().is_some_and(|capacity| capacity >= 0)
     }
 
     /// Whether some shares of the three sources meet the two debts, by trying all.
     fn some_allocation_covers(&self) -> bool {
-        for a in 0..9 {
-            for b in 0..9 {
-                for c in 0..9 {
-                    if self.is_covered_by(
-                        Share::numbered(a),
-                        Share::numbered(b),
-                        Share::numbered(c),
-                    ) {
-                        return true;
-                    }
-                }
-            }
-        }
-        false
+        let [first, second] = &self.guarantees;
+        let [credit] = &self.credits;
+        SHARES.iter().any(|a| {
+            self.may_give(first, a)
+                && SHARES.iter().any(|b| {
+                    self.may_give(second, b)
+                        && SHARES
+                            .iter()
+                            .any(|c| self.may_give(credit, c) && self.is_met_by(a, b, c))
+                })
+        })
     }
 
-    fn is_covered_by(&self, a: Share, b: Share, c: Share) -> bool {
-        self.may_give(self.guarantees[0], a)
-            && self.may_give(self.guarantees[1], b)
-            && self.may_credit(c)
-            && u64::from(a.to_first) + u64::from(b.to_first) + u64::from(c.to_first)
-                == self.debts[0].grains
-            && u64::from(a.to_second) + u64::from(b.to_second) + u64::from(c.to_second)
-                == self.debts[1].grains
+    /// Whether a source has this share to give, and may give it to these debts.
+    fn may_give<S: Source>(&self, source: &S, share: &[u8; 2]) -> bool {
+        share.iter().map(|grains| u64::from(*grains)).sum::<u64>() <= source.grains()
+            && share
+                .iter()
+                .zip(&self.debts)
+                .all(|(grains, debt)| *grains == 0 || source.may_meet(debt))
     }
 
-    /// A guarantee gives at most its worth, and only to debts whose trading day it is valid on.
-    fn may_give(&self, guarantee: Guarantee, share: Share) -> bool {
-        share.in_all() <= guarantee.worth
-            && (share.to_first == 0 || guarantee.is_valid_on(self.debts[0].day))
-            && (share.to_second == 0 || guarantee.is_valid_on(self.debts[1].day))
-    }
-
-    /// The credit gives at most its grains, and only to debts of its period.
-    fn may_credit(&self, share: Share) -> bool {
-        share.in_all() <= self.credits[0].grains
-            && (share.to_first == 0 || self.debts[0].period == self.credits[0].period)
-            && (share.to_second == 0 || self.debts[1].period == self.credits[0].period)
+    /// Whether three shares come to each debt's grains.
+    fn is_met_by(&self, a: &[u8; 2], b: &[u8; 2], c: &[u8; 2]) -> bool {
+        self.debts.iter().zip(a).zip(b).zip(c).all(|(((debt, a), b), c)| {
+            u64::from(*a) + u64::from(*b) + u64::from(*c) == debt.grains
+        })
     }
 }
 
@@ -137,18 +145,13 @@ fn debt(n: u32) -> Debt {
 }
 
 fn main(rt: HostRuntime) -> io::Result<()> {
-    let mut covered: u32 = 0;
-    let mut differing: u32 = 0;
-    for n in 0..POSITIONS {
-        let case = Case::numbered(n);
-        let covers = case.some_allocation_covers();
-        if covers {
-            covered = covered.saturating_add(1);
-        }
-        if covers != case.has_capacity() {
-            differing = differing.saturating_add(1);
-        }
-    }
+    let covered = (0..POSITIONS)
+        .filter(|n| Case::numbered(*n).some_allocation_covers())
+        .count();
+    let differing = (0..POSITIONS)
+        .map(Case::numbered)
+        .filter(|case| case.some_allocation_covers() != case.has_capacity())
+        .count();
     println!(rt;
         "{POSITIONS} positions, {covered} with an allocation that covers, {differing} where the capacity says otherwise"
     )

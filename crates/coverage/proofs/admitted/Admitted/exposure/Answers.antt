@@ -1,7 +1,7 @@
 use Rattle.std.proofs.Common.{arith}
 use borrow.Author.Differences.{ints}
 use Rattle.coverage.specs.Capacity.{exposure}
-use Rattle.coverage.proofs.figures.exposure_of.Goals as goal
+use Rattle.coverage.proofs.admitted.Admitted.exposure.Goals as goal
 
 pub returns : goal.returns
 unfolding exposure

@@ -1,0 +1,138 @@
+//! A position within the limits, whose sums fit 63 bits, and the figures that are made of them.
+ghost use Rattle.std.specs.Prelude.{◌≡◌, ◌^◌, ◌<◌, ◌≤◌, ◌==◌, ◌&&◌, nat_le, sum_by, filter, is_some, IfSome, Decides};
+ghost use Rattle.coverage.specs.Admission.{Admissible, position_of};
+ghost use Rattle.coverage.specs.Allocation.{valid};
+ghost use Rattle.coverage.specs.Capacity.{excess, owes_in, uncredited, exposure, capacity_at, capacity, SmallestOfTheDays};
+
+use crate::position::Position;
+use crate::rows::Debt;
+
+/// A position that was found within the limits.
+#[derive(Drop)]
+pub(crate) struct Admitted<'a> {
+    position: Position<'a>,
+    ghost days_in_order: { position.first_day ≤ position.today },
+    ghost debts_fit: { sum_by (λ x. x.grains) position.debts.now < 2 ^ 63 },
+    ghost credits_fit: { sum_by (λ c. c.grains) position.credits.now < 2 ^ 63 },
+    ghost guarantees_fit: { sum_by (λ g. g.worth) position.guarantees.now < 2 ^ 63 },
+}
+
+impl Position<'_> {
+    /// The position with what is known of it where it is within the limits.
+    pub(crate) fn admitted(&self) -> Option<Admitted<'_>>
+        ensures exactly_when_within_the_limits { Decides (is_some result) (Admissible (position_of self.now)) }
+        ensures of_this_position { IfSome result (λ a. a.position ≡ self.now) }
+    {
+        if self.is_admissible() {
+            Some(Admitted { position: *self })
+        } else {
+            None
+        }
+    }
+}
+
+impl Admitted<'_> {
+    /// Minus what all debts exceed the credits by: every debt is of day 0 or later.
+    pub(crate) fn exposure(&self) -> i64
+        ensures minus_debts_above_credit { result ≡ exposure (position_of self.now.position) }
+    {
+        -(self.uncredited_from(0) as i64)
+    }
+
+    /// What all credits come to.
+    pub(crate) fn credited(&self) -> u64
+        ensures sum_of_all { result ≡ sum_by (λ c. c.grains) self.now.position.credits.now }
+        ensures fits { result < 2 ^ 63 }
+    {
+        self.position
+            .credits
+            .iter()
+            .map(|credit| credit.grains)
+            .sum()
+    }
+
+    /// The smallest capacity of the days from the first to today.
+    pub(crate) fn capacity(&self) -> i64
+        ensures is_the_capacity { result ≡ capacity (position_of self.now.position) }
+        ensures smallest_of_the_days { SmallestOfTheDays (position_of self.now.position) result }
+    {
+        (self.position.first_day..self.position.today)
+            .map(|day| self.capacity_at(day))
+            .fold(self.capacity_at(self.position.today), i64::min)
+    }
+
+    /// What the guarantees valid on a day leave after the debts of that day or later.
+    fn capacity_at(&self, day: u32) -> i64
+        ensures valid_guarantees_less_debts_above_credit { result ≡ capacity_at (position_of self.now.position) day }
+    {
+        self.guaranteed_on(day) as i64 - self.uncredited_from(day) as i64
+    }
+
+    /// What the guarantees that are valid on a day are worth.
+    fn guaranteed_on(&self, day: u32) -> u64
+        ensures sum_of_the_valid { result ≡ sum_by (λ g. g.worth) (filter (λ g. valid g day) self.now.position.guarantees.now) }
+        ensures fits { result < 2 ^ 63 }
+    {
+        self.position
+            .guarantees
+            .iter()
+            .filter(|guarantee| guarantee.is_valid_on(day))
+            .map(|guarantee| guarantee.worth)
+            .sum()
+    }
+
+    /// What the debts of a day or later exceed the credits by, period by period.
+    fn uncredited_from(&self, day: u32) -> u64
+        ensures sum_over_the_periods { result ≡ uncredited (position_of self.now.position) day }
+        ensures fits { result < 2 ^ 63 }
+    {
+        let mut sum: u64 = 0;
+        let mut rest = self.position.debts;
+        while let Some((debt, after)) = rest.split_first() {
+            if !owes_in(after, debt.period) {
+                sum += self.excess_in(day, debt.period);
+            }
+            rest = after;
+        }
+        sum
+    }
+
+    /// What the debts of a period, of a day or later, exceed its credit by.
+    fn excess_in(&self, day: u32, period: u32) -> u64
+        ensures debts_above_credit { result ≡ excess (position_of self.now.position) day period }
+    {
+        self.owed_from(day, period)
+            .saturating_sub(self.credited_in(period))
+    }
+
+    /// What the debts of a period that are of a day or later come to.
+    fn owed_from(&self, day: u32, period: u32) -> u64
+        ensures sum_of_the_due { result ≡ sum_by (λ x. x.grains) (filter (λ x. x.period == period && nat_le day x.day) self.now.position.debts.now) }
+    {
+        self.position
+            .debts
+            .iter()
+            .filter(|debt| debt.period == period && day <= debt.day)
+            .map(|debt| debt.grains)
+            .sum()
+    }
+
+    /// What the credits of a period come to.
+    fn credited_in(&self, period: u32) -> u64
+        ensures sum_of_the_period { result ≡ sum_by (λ c. c.grains) (filter (λ c. c.period == period) self.now.position.credits.now) }
+    {
+        self.position
+            .credits
+            .iter()
+            .filter(|credit| credit.period == period)
+            .map(|credit| credit.grains)
+            .sum()
+    }
+}
+
+/// Whether one of the debts is of a period.
+fn owes_in(debts: &[Debt], period: u32) -> bool
+    ensures some_debt_of_the_period { result ≡ owes_in debts.now period }
+{
+    debts.iter().any(|debt| debt.period == period)
+}
