@@ -1,9 +1,11 @@
 //! What a book holds: its terms, and its tables with room for all the rows that they may ever have.
 
-ghost use Rattle.std.specs.Prelude.{◌≡◌, ◌≤◌, true, vec_len, vec_capacity};
+ghost use Rattle.std.specs.Prelude.{◌≡◌, ◌≤◌, true};
 ghost use Rattle.records.specs.Rows.{shares_in_range, amounts_in_range};
+ghost use Rattle.reserved.specs.Reserved.{items};
 
 use records::{Guarantee, Participant, Terms};
+use reserved::Reserved;
 
 mod calls;
 mod open;
@@ -21,14 +23,10 @@ pub struct Book<R, C> {
     calendar: C,
     terms: Terms,
     today: u64,
-    participants: Vec<Participant>,
-    guarantees: Vec<Guarantee>,
-    ghost few_participants: { vec_len participants ≤ 32 },
-    ghost participant_room: { 32 ≤ vec_capacity participants },
-    ghost few_guarantees: { vec_len guarantees ≤ 64 },
-    ghost guarantee_room: { 64 ≤ vec_capacity guarantees },
+    participants: Reserved<Participant, MAX_PARTICIPANTS>,
+    guarantees: Reserved<Guarantee, MAX_GUARANTEES>,
     ghost margin_in_range: { terms.margin ≤ 99 },
     ghost since_first_day: { terms.first_day ≤ today },
-    ghost shares: { shares_in_range participants.items ≡ true },
-    ghost amounts: { amounts_in_range guarantees.items ≡ true },
+    ghost shares: { shares_in_range (items participants) ≡ true },
+    ghost amounts: { amounts_in_range (items guarantees) ≡ true },
 }

@@ -1,4 +1,5 @@
-//! The calls of an open book. Each checks its own arguments, then looks at the book's state, and only then changes it.
+//! The calls of an open book. Each checks its own arguments, then looks at the book's state, and only then changes it: what
+//! the look has found is why no `unwrap` can fail, as the proofs show.
 
 ghost use Rattle.std.specs.Prelude.{◌≡◌, ℕ, true, pos, is_err, IfOk};
 ghost use Rattle.records.specs.Calls.{Performs};
@@ -22,13 +23,15 @@ impl<R, C> Book<R, C> {
         }
         .check()?;
         self.may_admit(participant)?;
-        self.participants.push_reserved(Participant {
-            number: participant,
-            vat,
-            share,
-            last_proposal: 0,
-            last_guarantee: 0,
-        });
+        self.participants
+            .push(Participant {
+                number: participant,
+                vat,
+                share,
+                last_proposal: 0,
+                last_guarantee: 0,
+            })
+            .unwrap();
         Ok(self.position(participant))
     }
 
@@ -58,8 +61,8 @@ impl<R, C> Book<R, C> {
             last_day,
         };
         let at = self.may_post(&row)?;
-        self.participants[at].last_guarantee = guarantee;
-        self.guarantees.push_reserved(row);
+        self.participants.get_mut(at).unwrap().last_guarantee = guarantee;
+        self.guarantees.push(row).unwrap();
         Ok(self.position(participant))
     }
 

@@ -1,23 +1,13 @@
 //! The opening of a book.
 
-ghost use Rattle.std.specs.Prelude.{◌≡◌, ◌≤◌, unsigned_abs};
 ghost use Rattle.book.specs.Opening.{Opens};
 
 use crate::fault::OpenFault;
-use crate::tables::{Book, MAX_GUARANTEES, MAX_PARTICIPANTS};
+use crate::tables::Book;
 use market::{Calendar, MarketRule, Price};
 use records::Terms;
+use reserved::Reserved;
 use std::alloc::Global;
-
-/// A price that was checked.
-fn price(cents: i64) -> Price
-    requires in_range { unsigned_abs cents ≤ 400000 }
-    ensures holds_the_cents { result.cents ≡ cents }
-{
-    Price {
-        cents: cents as i32,
-    }
-}
 
 impl<R: MarketRule + Drop, C: Calendar + Drop> Book<R, C> {
     /// Checks the terms, then makes an empty book of them, with memory for all its rows: no later call wants any. The
@@ -31,9 +21,11 @@ impl<R: MarketRule + Drop, C: Calendar + Drop> Book<R, C> {
         ensures empty_on_its_terms_or_refused { Opens R.MarketRule.meaning rule calendar terms result }
     {
         terms.check()?;
-        let participants = Vec::with_capacity(heap, MAX_PARTICIPANTS)?;
-        let guarantees = Vec::with_capacity(heap, MAX_GUARANTEES)?;
-        rule.publish(price(terms.reference));
+        let participants = Reserved::new(heap)?;
+        let guarantees = Reserved::new(heap)?;
+        rule.publish(Price {
+            cents: terms.reference as i32,
+        });
         Ok(Book {
             rule,
             calendar,

@@ -1,24 +1,22 @@
 //! What the state of a book allows: each look answers the smallest number due, or the row that the call is about.
 
-ghost use Rattle.std.specs.Prelude.{◌≡◌, ◌<◌, Some, vec_len};
+ghost use Rattle.std.specs.Prelude.{◌≡◌};
 ghost use Rattle.records.specs.Refusals.{cleared, due};
 ghost use Rattle.records.specs.Rows.{is_participant, is_guarantee};
-ghost use Rattle.records.specs.Tables.{place};
 ghost use Rattle.records.specs.Calls.{not_known, not_admissible, not_postable, not_returnable};
 ghost use Rattle.book.specs.View.{state};
-ghost use Rattle.book.specs.Permits.{Permits};
+ghost use Rattle.reserved.specs.Reserved.{items};
+ghost use Rattle.book.specs.Permits.{Permits, StandsAt};
 
-use crate::tables::{Book, MAX_GUARANTEES, MAX_PARTICIPANTS};
+use crate::tables::Book;
 use records::{Fault, Guarantee, GuaranteeKey};
 
 impl<R, C> Book<R, C> {
     pub(super) fn known(&self, participant: u64) -> Result<usize, Fault>
-        ensures fault_due_or_its_row { Permits (due (not_known (state self.now) participant)) (λ at. (place (is_participant participant) self.now.participants.items ≡ Some at) × (at < vec_len self.now.participants)) result }
+        ensures fault_due_or_its_row { Permits (due (not_known (state self.now) participant)) (StandsAt (is_participant participant) (items self.now.participants)) result }
     {
-        match self.participant_at(participant) {
-            Some(at) => Ok(at),
-            None => Err(Fault::UnknownParticipant),
-        }
+        self.participant_at(participant)
+            .ok_or(Fault::UnknownParticipant)
     }
 
     pub(super) fn may_admit(&self, participant: u64) -> Result<(), Fault>
@@ -27,7 +25,7 @@ impl<R, C> Book<R, C> {
         if self.participant_at(participant).is_some() {
             return Err(Fault::AlreadyAdmitted);
         }
-        if self.participants.len() >= MAX_PARTICIPANTS {
+        if self.participants.is_full() {
             return Err(Fault::TableFull);
         }
         Ok(())
@@ -35,18 +33,16 @@ impl<R, C> Book<R, C> {
 
     /// For a guarantee that may be posted, where its participant's row stands.
     pub(super) fn may_post(&self, guarantee: &Guarantee) -> Result<usize, Fault>
-        ensures fault_due_or_its_row { Permits (due (not_postable (state self.now) guarantee.now.participant guarantee.now.number guarantee.now.last_day)) (λ at. (place (is_participant guarantee.now.participant) self.now.participants.items ≡ Some at) × (at < vec_len self.now.participants)) result }
+        ensures fault_due_or_its_row { Permits (due (not_postable (state self.now) guarantee.now.participant guarantee.now.number guarantee.now.last_day)) (StandsAt (is_participant guarantee.now.participant) (items self.now.participants)) result }
     {
-        let Some(at) = self.participant_at(guarantee.participant) else {
-            return Err(Fault::UnknownParticipant);
-        };
-        if guarantee.number <= self.participants[at].last_guarantee {
+        let at = self.known(guarantee.participant)?;
+        if guarantee.number <= self.participants.as_slice()[at].last_guarantee {
             return Err(Fault::NumberUsed);
         }
         if !guarantee.is_valid_on(self.today) {
             return Err(Fault::DayPast);
         }
-        if self.guarantees.len() >= MAX_GUARANTEES {
+        if self.guarantees.is_full() {
             return Err(Fault::TableFull);
         }
         Ok(at)
@@ -54,20 +50,13 @@ impl<R, C> Book<R, C> {
 
     /// For a guarantee that may be returned, where its row stands.
     pub(super) fn may_return(&self, participant: u64, number: u64) -> Result<usize, Fault>
-        ensures fault_due_or_its_row { Permits (due (not_returnable (state self.now) participant number)) (λ at. (place (is_guarantee participant number) self.now.guarantees.items ≡ Some at) × (at < vec_len self.now.guarantees)) result }
+        ensures fault_due_or_its_row { Permits (due (not_returnable (state self.now) participant number)) (StandsAt (is_guarantee participant number) (items self.now.guarantees)) result }
     {
-        if self.participant_at(participant).is_none() {
-            return Err(Fault::UnknownParticipant);
-        }
-        match records::position(
-            &self.guarantees,
-            &GuaranteeKey {
-                participant,
-                number,
-            },
-        ) {
-            Some(at) => Ok(at),
-            None => Err(Fault::UnknownGuarantee),
-        }
+        self.known(participant)?;
+        let key = GuaranteeKey {
+            participant,
+            number,
+        };
+        records::position(self.guarantees.as_slice(), &key).ok_or(Fault::UnknownGuarantee)
     }
 }

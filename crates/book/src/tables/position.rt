@@ -1,12 +1,13 @@
 //! A participant's position: what every call answers.
 
-ghost use Rattle.std.specs.Prelude.{◌≡◌, ◌<◌, ◌≤◌, true, length, is_some, IfSome, vec_len};
+ghost use Rattle.std.specs.Prelude.{◌≡◌, ◌<◌, ◌≤◌, true, length, is_some, IfSome};
 ghost use Rattle.records.specs.Rows.{amounts_in_range};
 ghost use Rattle.records.specs.Capacity.{worth_on, guaranteed, position};
 ghost use Rattle.records.specs.Capacity.{share_of as the_share_of};
 ghost use Rattle.records.specs.Rows.{is_participant};
 ghost use Rattle.records.specs.Tables.{find, place};
 ghost use Rattle.records.specs.Calls.{known};
+ghost use Rattle.reserved.specs.Reserved.{items};
 ghost use Rattle.book.specs.View.{state};
 
 use crate::tables::Book;
@@ -44,33 +45,30 @@ impl Valuation {
         ensures value { result ≡ guaranteed self.now.margin self.now.share self.now.participant guarantees.now self.now.day }
         ensures bound { result ≤ 640000000000000000 }
     {
-        let mut total = 0;
-        for guarantee in guarantees {
-            total += self.worth(guarantee);
-        }
-        total
+        guarantees
+            .iter()
+            .map(|guarantee| self.worth(guarantee))
+            .sum()
     }
 }
 
 impl<R, C> Book<R, C> {
     /// Where a participant's row stands.
     pub(super) fn participant_at(&self, participant: u64) -> Option<usize>
-        ensures first_match { result ≡ place (is_participant participant) self.now.participants.items }
-        ensures within { IfSome result (λ i. i < vec_len self.now.participants) }
+        ensures first_match { result ≡ place (is_participant participant) (items self.now.participants) }
+        ensures within { IfSome result (λ i. i < length (items self.now.participants)) }
         ensures where_known { known (state self.now) participant ≡ is_some result }
     {
-        records::position(&self.participants, &participant)
+        records::position(self.participants.as_slice(), &participant)
     }
 
     /// A participant's share, 0 where there is no such participant.
     fn share_of(&self, participant: u64) -> u64
-        ensures value { result ≡ the_share_of (find (is_participant participant) self.now.participants.items) }
+        ensures value { result ≡ the_share_of (find (is_participant participant) (items self.now.participants)) }
         ensures bound { result ≤ 1000 }
     {
-        match self.participant_at(participant) {
-            Some(at) => self.participants[at].share,
-            None => 0,
-        }
+        self.participant_at(participant)
+            .map_or(0, |at| self.participants.as_slice()[at].share)
     }
 
     /// The position after a call. With no debts the capacity is the worth of the guarantees valid today: it falls from day
@@ -88,7 +86,7 @@ impl<R, C> Book<R, C> {
             status: Status::New,
             exposure: 0,
             credit_position: 0,
-            capacity: valuation.worth_of_all(&self.guarantees) as i64,
+            capacity: valuation.worth_of_all(self.guarantees.as_slice()) as i64,
         }
     }
 }

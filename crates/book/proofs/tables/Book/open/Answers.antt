@@ -1,39 +1,35 @@
-use Rattle.std.proofs.Common.{◌≡◌, ap, ◌∙◌, arith, w64, to_z, of_z}
-use Rattle.records.specs.Rows.{shares_in_range, amounts_in_range}
+use Rattle.std.proofs.Common.{arith}
+use Rattle.std.proofs.lemmas.Int.{ints}
 use Rattle.records.specs.State.{opened}
 use Rattle.records.proofs.Ranges.{checked_margin, checked_reference, shares_none, amounts_none}
 use Rattle.records.proofs.Refusing.{none_due}
-use Rattle.std.proofs.lemmas.Int.{ints}
 use Rattle.book.proofs.Positions.{same_tables}
 use Rattle.book.proofs.tables.Book.open.Goals as goal
 
-pub invariant_of-result : goal.invariant_of-result
-invariant_of-result g c =
-    let p = c.in_ok-participants.ensures in
-    let q = c.in_ok-guarantees.ensures in
-    record {
-      few_participants = omega arith;
-      participant_room = omega arith;
-      few_guarantees = omega arith;
-      guarantee_room = omega arith;
-      margin_in_range = checked_margin c.args.terms c.in_ok-check.ensures.fault_due_for_the_input;
-      since_first_day = omega arith;
-      shares = ap shares_in_range p.items ∙ shares_none;
-      amounts = ap amounts_in_range q.items ∙ amounts_none;
-    }
+pub overflow_cast-terms : goal.overflow_cast-terms
+overflow_cast-terms g c = let r = checked_reference c.args.terms c.in_ok-check.ensures.fault_due_for_the_input in omega (arith, ints)
 
-pub price-requires : goal.price-requires
-price-requires g c =
-    record { in_range = omega (arith, ints, checked_reference c.args.terms c.in_ok-check.ensures.fault_due_for_the_input) }
+pub invariant_of-publish : goal.invariant_of-publish
+invariant_of-publish g c =
+    let r = checked_reference c.args.terms c.in_ok-check.ensures.fault_due_for_the_input in
+    record { ranged = omega (arith, ints) }
+
+pub invariant_of-result-clause-margin_in_range : goal.invariant_of-result-clause-margin_in_range
+invariant_of-result-clause-margin_in_range g c = checked_margin c.args.terms c.in_ok-check.ensures.fault_due_for_the_input
+
+pub invariant_of-result-clause-shares : goal.invariant_of-result-clause-shares
+invariant_of-result-clause-shares g c = rw c.in_ok-participants.ensures.holds_nothing shares_none
+
+pub invariant_of-result-clause-amounts : goal.invariant_of-result-clause-amounts
+invariant_of-result-clause-amounts g c = rw c.in_ok-guarantees.ensures.holds_nothing amounts_none
 
 pub returns : goal.returns
 returns g c =
-    let e : to_z w64 (of_z w64 c.args.terms.reference) ≡ c.args.terms.reference = omega (arith, ints) in
-    let none = none_due _ c.in_ok-check.ensures.fault_due_for_the_input in
+    let r = checked_reference c.args.terms c.in_ok-check.ensures.fault_due_for_the_input in
     record {
       empty_on_its_terms_or_refused = (
-        none,
-        same_tables (opened c.publish.new.self c.args.calendar c.args.terms) c.in_ok-participants.ensures.items c.in_ok-guarantees.ensures.items,
-        record { price = c.price.result; of_the_terms = c.price.ensures.holds_the_cents ∙ e; replaced = c.publish.ensures.replaces_the_reference },
+        none_due _ c.in_ok-check.ensures.fault_due_for_the_input,
+        same_tables (opened c.publish.new.self c.args.calendar c.args.terms) c.in_ok-participants.ensures.holds_nothing c.in_ok-guarantees.ensures.holds_nothing,
+        record { price = _; of_the_terms = omega (arith, ints); replaced = c.publish.ensures.replaces_the_reference },
       );
     }
