@@ -96,8 +96,8 @@ pub trait Reply {
     /// The fields, each after a comma, and the line feed.
     fn text(&self) -> Text
         ensures each_after_a_comma { result ≡ after_commas (fields self.now) ++ line_feed ∷ [] }
-        ensures hold_no_comma { AllByRecursion Plain (fields self.now) }
-        ensures leave_room_for_the_number { length result + 20 ≤ line_room };
+        ensures no_field_holds_a_comma { AllByRecursion Plain (fields self.now) }
+        ensures leaves_room_for_the_number { length result + 20 ≤ line_room };
 }
 
 impl Reply for Answer {

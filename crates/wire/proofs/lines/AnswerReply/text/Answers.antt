@@ -1,6 +1,5 @@
-use Rattle.std.proofs.Common.{rules}
-use Rattle.wire.proofs.Writing.{plain_status, plain_signed}
+use Rattle.wire.proofs.Writing.{plain_answer}
 use Rattle.wire.proofs.lines.AnswerReply.text.Goals as goal
 
-pub returns-clause-hold_no_comma : goal.returns-clause-hold_no_comma
-returns-clause-hold_no_comma c = search (rules, plain_status, plain_signed)
+pub returns-clause-no_field_holds_a_comma : goal.returns-clause-no_field_holds_a_comma
+returns-clause-no_field_holds_a_comma c = plain_answer c.args.self.now
