@@ -1,5 +1,5 @@
 -- Lemmas on numbers and lines that are written into a buffer.
-use Rattle.std.proofs.Common.{◌≡◌, ℕ, suc, ◌+◌, ◌-◌, ◌/◌, ◌%◌, ◌^◌, ◌<◌, ◌≤◌, true, false, List, [], ◌∷◌, ◌++◌, length, take, drop, set, ℤ, pos, negsuc, nat_abs, Some, decimal, sym, refl, ap, ◌∙◌, append_assoc, append-nil, zero-add, add-one, arith, w64, SFits, to_z, of_z}
+use Rattle.std.proofs.Common.{◌≡◌, ℕ, suc, ◌+◌, ◌-◌, ◌/◌, ◌%◌, ◌^◌, ◌<◌, ◌≤◌, true, false, List, [], ◌∷◌, ◌++◌, length, take, drop, set, ℤ, pos, negsuc, nat_abs, Some, unwrap_or, decimal, sym, refl, ap, ◌∙◌, append_assoc, append-nil, zero-add, add-one, arith, w64, SFits, to_z, of_z}
 use borrow.Rule.Slice.PartMut.{put_mid}
 use lib.Signed.{lt_z, mag}
 use Rattle.std.specs.Fmt.{signed_decimal}
@@ -155,11 +155,11 @@ answer_parts a d e =
     l ∙ ap (λ x. decimal a.line ++ (44 ∷ x ∷ 44 ∷ (signed_decimal a.answer.exposure ++ (44 ∷ (signed_decimal a.answer.credit_position ++ (44 ∷ (signed_decimal a.answer.capacity ++ 10 ∷ []))))))) e
     ∙ sym (append_assoc (decimal a.line) _ (line_feed ∷ []) ∙ ap (λ z. decimal a.line ++ z) (line_ended (answer_fields a)))
 
-pub refusal_parts : (r : RefusalLine) (l : ℕ) → l ≡ layer_letter r.refusal.layer → (((signed_decimal (pos r.line) ++ 44 ∷ []) ++ (signed_decimal (pos r.refusal.number) ++ 44 ∷ [])) ++ (l ∷ 44 ∷ [])) ++ (signed_decimal (pos r.refusal.place) ++ 10 ∷ []) ≡ refusal_text r
+pub refusal_parts : (r : RefusalLine) (l : ℕ) → l ≡ layer_letter r.refusal.layer → (((signed_decimal (pos r.line) ++ 44 ∷ []) ++ (signed_decimal (pos r.refusal.number) ++ 44 ∷ [])) ++ (l ∷ 44 ∷ [])) ++ (signed_decimal (pos (unwrap_or r.refusal.place 0)) ++ 10 ∷ []) ≡ refusal_text r
 unfolding refusal_text ended
 refusal_parts r l e =
-    let k : (((decimal r.line ++ 44 ∷ []) ++ (decimal r.refusal.number ++ 44 ∷ [])) ++ (l ∷ 44 ∷ [])) ++ (decimal r.refusal.place ++ 10 ∷ []) ≡ decimal r.line ++ (44 ∷ (decimal r.refusal.number ++ (44 ∷ l ∷ 44 ∷ (decimal r.refusal.place ++ 10 ∷ [])))) = simp append_assoc in
-    k ∙ ap (λ x. decimal r.line ++ (44 ∷ (decimal r.refusal.number ++ (44 ∷ x ∷ 44 ∷ (decimal r.refusal.place ++ 10 ∷ []))))) e
+    let k : (((decimal r.line ++ 44 ∷ []) ++ (decimal r.refusal.number ++ 44 ∷ [])) ++ (l ∷ 44 ∷ [])) ++ (decimal (unwrap_or r.refusal.place 0) ++ 10 ∷ []) ≡ decimal r.line ++ (44 ∷ (decimal r.refusal.number ++ (44 ∷ l ∷ 44 ∷ (decimal (unwrap_or r.refusal.place 0) ++ 10 ∷ [])))) = simp append_assoc in
+    k ∙ ap (λ x. decimal r.line ++ (44 ∷ (decimal r.refusal.number ++ (44 ∷ x ∷ 44 ∷ (decimal (unwrap_or r.refusal.place 0) ++ 10 ∷ []))))) e
     ∙ sym (append_assoc (decimal r.line) _ (line_feed ∷ []) ∙ ap (λ z. decimal r.line ++ z) (line_ended (refusal_fields r)))
 
 -- no comma is in a number, a digit or a layer's letter
@@ -193,9 +193,9 @@ pub answer_falls : (a : AnswerLine) → SFits w64 (pos a.line) → SFits w64 a.a
 unfolding answer_text
 answer_falls a l e p c = falls_into a.line (answer_fields a) l (plain_status a.answer.status, (plain_signed _ e, (plain_signed _ p, (plain_signed _ c, tt))))
 
-pub refusal_falls : (r : RefusalLine) → SFits w64 (pos r.line) → SFits w64 (pos r.refusal.number) → SFits w64 (pos r.refusal.place) → FallsInto (refusal_text r) r.line (refusal_fields r)
+pub refusal_falls : (r : RefusalLine) → SFits w64 (pos r.line) → SFits w64 (pos r.refusal.number) → SFits w64 (pos (unwrap_or r.refusal.place 0)) → FallsInto (refusal_text r) r.line (refusal_fields r)
 unfolding refusal_text
-refusal_falls r l n p = falls_into r.line (refusal_fields r) l (plain_signed (pos r.refusal.number) n, (plain_layer r.refusal.layer, (plain_signed (pos r.refusal.place) p, tt)))
+refusal_falls r l n p = falls_into r.line (refusal_fields r) l (plain_signed (pos r.refusal.number) n, (plain_layer r.refusal.layer, (plain_signed (pos (unwrap_or r.refusal.place 0)) p, tt)))
 
 -- what was written of a number is read as that number
 pub reads_back : (z : ℤ) (bytes : List ℕ) → bytes ≡ signed_decimal z → ReadsBack z bytes

@@ -1,5 +1,5 @@
 -- The text of answer lines and refusal lines, and a buffer over which text is written.
-use Rattle.std.specs.Prelude.{◌≡◌, ℕ, ◌+◌, ◌^◌, ◌<◌, ◌≤◌, List, [], ◌∷◌, ◌++◌, length, take, drop, ℤ, pos, Some, None, decimal, Option, unsigned_abs}
+use Rattle.std.specs.Prelude.{◌≡◌, ℕ, ◌+◌, ◌^◌, ◌<◌, ◌≤◌, List, [], ◌∷◌, ◌++◌, length, take, drop, ℤ, pos, Some, None, decimal, Option, unwrap_or, unsigned_abs}
 use Rattle.std.specs.List.{flat_map}
 use Rattle.std.specs.Fmt.{signed_decimal}
 use Rattle.wire.specs.declared.lines.AnswerLine.{AnswerLine}
@@ -34,9 +34,9 @@ layer_letter Book = 66
 abbrev pub answer_fields : AnswerLine → List (List ℕ)
 answer_fields a = (status_digit a.answer.status ∷ []) ∷ signed_decimal a.answer.exposure ∷ signed_decimal a.answer.credit_position ∷ signed_decimal a.answer.capacity ∷ []
 
--- what follows the line number in a refusal line: refusal number, layer, the field's place
+-- what follows the line number in a refusal line: refusal number, layer, the field's place or 0 where no field is at fault
 abbrev pub refusal_fields : RefusalLine → List (List ℕ)
-refusal_fields r = decimal r.refusal.number ∷ (layer_letter r.refusal.layer ∷ []) ∷ decimal r.refusal.place ∷ []
+refusal_fields r = decimal r.refusal.number ∷ (layer_letter r.refusal.layer ∷ []) ∷ decimal (unwrap_or r.refusal.place 0) ∷ []
 
 unfoldable pub answer_text : AnswerLine → List ℕ
 answer_text a = line_of a.line (answer_fields a)

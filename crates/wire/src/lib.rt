@@ -99,7 +99,7 @@ mod tests {
             refusal: Refusal {
                 number: 218,
                 layer: Layer::Book,
-                place: 0,
+                place: None,
             },
         };
         let mut buffer = [b'x'; 96];

@@ -177,5 +177,6 @@ pub fn write_refusal(buffer: &mut [u8], refusal: &RefusalLine) -> Option<usize>
     let at = put_number(buffer, 0, i64::from(refusal.line), b',');
     let at = put_number(buffer, at, i64::from(refusal.refusal.number), b',');
     let at = put_letter(buffer, at, layer_letter(refusal.refusal.layer));
-    Some(put_number(buffer, at, i64::from(refusal.refusal.place), b'\n'))
+    let place = refusal.refusal.place.unwrap_or(0);
+    Some(put_number(buffer, at, i64::from(place), b'\n'))
 }
