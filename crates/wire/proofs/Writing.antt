@@ -1,5 +1,5 @@
 -- Lemmas on numbers and lines that are written into a buffer.
-use Rattle.std.proofs.Common.{◌≡◌, ℕ, zero, suc, ◌+◌, ◌/◌, ◌%◌, Bool, true, false, cond, List, [], ◌∷◌, ◌++◌, ℤ, pos, negsuc, sym, ap, ◌∙◌, arith}
+use Rattle.std.proofs.Common.{◌≡◌, ℕ, zero, suc, ◌+◌, ◌/◌, ◌%◌, Bool, true, false, cond, List, [], ◌∷◌, ◌++◌, unwrap_or, ℤ, pos, negsuc, sym, ap, ◌∙◌, arith}
 use Rattle.std.specs.Prelude.{◌==◌, nat_lt}
 use Rattle.std.specs.Fmt.{digits_onto, digits, digit_glyph, decimal, signed_decimal}
 use Rattle.std.specs.List.{AllByRecursion}
@@ -51,7 +51,7 @@ pub plain_answer : (a : Answer) → AllByRecursion Plain (answer_fields a)
 plain_answer a = (plain_status a.status, (plain_signed a.exposure, (plain_signed a.credit_position, (plain_signed a.capacity, tt))))
 
 pub plain_refusal : (r : Refusal) → AllByRecursion Plain (refusal_fields r)
-plain_refusal r = (plain_decimal r.number, (plain_layer r.layer, (plain_decimal r.place, tt)))
+plain_refusal r = (plain_decimal r.number, (plain_layer r.layer, (plain_decimal (unwrap_or r.place 0), tt)))
 
 -- so a line falls into the fields that were written
 pub falls_into : (number : ℕ) (fs : List (List ℕ)) → AllByRecursion Plain fs → FallsInto (line_of number fs) number fs

@@ -1,5 +1,5 @@
 -- The text of answer lines and refusal lines, and a buffer over which text is written.
-use Rattle.std.specs.Prelude.{◌≡◌, ℕ, ◌^◌, ◌<◌, ◌≤◌, List, [], ◌∷◌, ◌++◌, length, drop, ℤ, pos, Some, None, decimal, Option, unsigned_abs}
+use Rattle.std.specs.Prelude.{◌≡◌, ℕ, ◌^◌, ◌<◌, ◌≤◌, List, [], ◌∷◌, ◌++◌, length, drop, ℤ, pos, Some, None, decimal, Option, unwrap_or, unsigned_abs}
 use Rattle.std.specs.List.{flat_map}
 use Rattle.std.specs.Fmt.{signed_decimal}
 use Rattle.records.specs.declared.answer.Answer.{Answer}
@@ -38,9 +38,9 @@ layer_letter Book = 66
 abbrev pub answer_fields : Answer → List (List ℕ)
 answer_fields a = (status_digit a.status ∷ []) ∷ signed_decimal a.exposure ∷ signed_decimal a.credit_position ∷ signed_decimal a.capacity ∷ []
 
--- what follows the line number in a refusal line: refusal number, layer, the field's place
+-- what follows the line number in a refusal line: refusal number, layer, the field's place or 0 where no field is at fault
 abbrev pub refusal_fields : Refusal → List (List ℕ)
-refusal_fields r = decimal r.number ∷ (layer_letter r.layer ∷ []) ∷ decimal r.place ∷ []
+refusal_fields r = decimal r.number ∷ (layer_letter r.layer ∷ []) ∷ decimal (unwrap_or r.place 0) ∷ []
 
 -- a text is a line number, the fields fs and a line feed, and its fields by commas are no others
 abbrev pub FallsInto : List ℕ → ℕ → List (List ℕ) → Type 0

@@ -92,7 +92,7 @@ mod tests {
         let refusal = Refusal {
             number: 218,
             layer: Layer::Book,
-            place: 0,
+            place: None,
         };
         let mut buffer = [b'x'; 96];
         let length = write_line(&mut buffer, 5, &refusal).ok_or("too short")?;

@@ -118,7 +118,7 @@ impl Reply for Refusal {
 
     fn text(&self) -> Text {
         let mut text = Text::line_feed();
-        text.prepend_number(i64::from(self.place));
+        text.prepend_number(i64::from(self.place.unwrap_or(0)));
         text.prepend_letter(layer_letter(self.layer));
         text.prepend_number(i64::from(self.number));
         text
