@@ -11,18 +11,18 @@ use Rattle.book.specs.declared.fault.OpenFault.TheVariants as open_fault
 use Rattle.desk.specs.declared.fault.LineFault.{LineFault}
 use Rattle.desk.specs.declared.fault.LineFault.TheVariants.{BufferTooShort, LineTooLong, UnknownLetter, WrongFieldCount, NotANumber, NotOpen, AlreadyOpen, Book, OutOfMemory}
 
-abbrev pub numbered : ℕ → Layer → ℕ → Option Refusal
+abbrev pub numbered : ℕ → Layer → Option ℕ → Option Refusal
 numbered number layer place = Some (record { number = number; layer = layer; place = place })
 
 -- How each fault is answered. Want of memory is no refusal of a rule, and has no number.
 abbrev pub refusal : LineFault → Option Refusal
-refusal BufferTooShort = numbered 100 Line 0
-refusal LineTooLong = numbered 101 Line 0
-refusal (UnknownLetter place) = numbered 102 Field place
-refusal WrongFieldCount = numbered 103 Field 0
-refusal (NotANumber place) = numbered 104 Field place
-refusal NotOpen = numbered 201 Line 0
-refusal AlreadyOpen = numbered 201 Line 0
+refusal BufferTooShort = numbered 100 Line None
+refusal LineTooLong = numbered 101 Line None
+refusal (UnknownLetter place) = numbered 102 Field (Some place)
+refusal WrongFieldCount = numbered 103 Field None
+refusal (NotANumber place) = numbered 104 Field (Some place)
+refusal NotOpen = numbered 201 Line None
+refusal AlreadyOpen = numbered 201 Line None
 refusal (Book fault) = Some (records.refusal fault)
 refusal OutOfMemory = None
 

@@ -14,7 +14,7 @@ use Rattle.records.specs.State.{State, opened}
 use Rattle.records.specs.Capacity.{position}
 use Rattle.records.specs.Calls.{terms_input, input, against, carried, participant_of}
 use Rattle.book.specs.View.{state}
-use Rattle.wire.specs.Lines.{answer_text, refusal_text, fronted, line_room}
+use Rattle.wire.specs.Lines.{answer_fields, refusal_fields, line_of, fronted, line_room}
 use Rattle.desk.specs.declared.command.Command.{Command}
 use Rattle.desk.specs.declared.command.Command.TheVariants.{Open, Perform}
 use Rattle.desk.specs.declared.command.MarketName.{MarketName}
@@ -85,10 +85,10 @@ Handled None line before reply after = Done (command_of line) before reply after
 -- what is written for a reply: its answer line or its refusal line, and nothing for want of memory
 abbrev pub refused_text : ℕ → Option Refusal → List ℕ
 refused_text number None = []
-refused_text number (Some r) = refusal_text (record { line = number; refusal = r })
+refused_text number (Some r) = line_of number (refusal_fields r)
 
 abbrev pub text : ℕ → Result Answer LineFault → List ℕ
-text number (Ok answer) = answer_text (record { line = number; answer = answer })
+text number (Ok answer) = line_of number (answer_fields answer)
 text number (Err fault) = refused_text number (refusal fault)
 
 -- into a buffer that is too short nothing at all is written

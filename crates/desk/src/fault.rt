@@ -57,12 +57,12 @@ impl LineFault {
         ensures as_the_table_has_it { result ≡ refusal self }
     {
         let (number, layer, place) = match self {
-            LineFault::BufferTooShort => (100, Layer::Line, 0),
-            LineFault::LineTooLong => (101, Layer::Line, 0),
-            LineFault::UnknownLetter { place } => (102, Layer::Field, place),
-            LineFault::WrongFieldCount => (103, Layer::Field, 0),
-            LineFault::NotANumber { place } => (104, Layer::Field, place),
-            LineFault::NotOpen | LineFault::AlreadyOpen => (201, Layer::Line, 0),
+            LineFault::BufferTooShort => (100, Layer::Line, None),
+            LineFault::LineTooLong => (101, Layer::Line, None),
+            LineFault::UnknownLetter { place } => (102, Layer::Field, Some(place)),
+            LineFault::WrongFieldCount => (103, Layer::Field, None),
+            LineFault::NotANumber { place } => (104, Layer::Field, Some(place)),
+            LineFault::NotOpen | LineFault::AlreadyOpen => (201, Layer::Line, None),
             LineFault::Book(fault) => return Some(fault.refusal()),
             LineFault::OutOfMemory => return None,
         };

@@ -13,7 +13,7 @@ use book::Book;
 use market::{Market, Weeks};
 use records::{Answer, Call, Status, Terms};
 use std::alloc::Global;
-use wire::{ANSWER_BYTES, AnswerLine, RefusalLine, write_answer, write_refusal};
+use wire::{ANSWER_BYTES, write_line};
 
 const MAX_LINE_BYTES: usize = 80;
 
@@ -116,23 +116,9 @@ fn write(buffer: &mut [u8], number: u32, reply: Result<Answer, LineFault>) -> us
     ensures line_stands_at_the_front { buffer.new ≡ fronted (text number reply) buffer.old }
 {
     match reply {
-        Ok(answer) => write_answer(
-            buffer,
-            &AnswerLine {
-                line: number,
-                answer,
-            },
-        )
-        .unwrap_or(0),
+        Ok(answer) => write_line(buffer, number, &answer).unwrap_or(0),
         Err(fault) => match fault.refusal() {
-            Some(refusal) => write_refusal(
-                buffer,
-                &RefusalLine {
-                    line: number,
-                    refusal,
-                },
-            )
-            .unwrap_or(0),
+            Some(refusal) => write_line(buffer, number, &refusal).unwrap_or(0),
             None => 0,
         },
     }

@@ -28,7 +28,7 @@ abbrev pub terms_input : Terms → List (Cause Fault)
 terms_input terms =
     (PriceOutOfRange 5 when price_outside terms.reference) ∷
     (RateOutOfRange 3 when outside 0 99 terms.margin) ∷
-    (DayOutOfRange 4 when outside 0 40000 terms.first_day) ∷ []
+    (DayOutOfRange (Some 4) when outside 0 40000 terms.first_day) ∷ []
 
 -- What can be wrong with a call's arguments by themselves. A participant's number is from 1 to 65,535, a guarantee's from 1
 -- to 4,294,967,295, an amount from 1 to 100,000,000,000 cents.
@@ -41,7 +41,7 @@ input (Post participant guarantee last_day cents) =
     (NumberOutOfRange 2 when outside 1 65535 participant) ∷
     (NumberOutOfRange 3 when outside 1 4294967295 guarantee) ∷
     (AmountOutOfRange 5 when outside 1 100000000000 cents) ∷
-    (DayOutOfRange 4 when day_outside last_day) ∷ []
+    (DayOutOfRange (Some 4) when day_outside last_day) ∷ []
 input (Return participant guarantee) =
     (NumberOutOfRange 2 when outside 1 65535 participant) ∷
     (NumberOutOfRange 3 when outside 1 4294967295 guarantee) ∷ []

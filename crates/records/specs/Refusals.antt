@@ -1,5 +1,5 @@
 -- The numbers of the refusals, and which of several is due. Assumes nothing.
-use Rattle.std.specs.Prelude.{◌≡◌, ℕ, ◌+◌, ◌*◌, ◌≤◌, Bool, true, false, cond, ◌||◌, ◌⊎◌, List, [], ◌∷◌, Some, None, Ok, Err, Option, Result, nat_lt}
+use Rattle.std.specs.Prelude.{◌≡◌, ℕ, ◌+◌, ◌*◌, ◌≤◌, Bool, true, false, cond, ◌||◌, ◌⊎◌, List, [], ◌∷◌, Some, None, Ok, Err, Option, Result, unwrap_or, nat_lt}
 use Rattle.std.specs.List.{AllByRecursion}
 use Rattle.market.specs.declared.listed.ListFault.{ListFault}
 use Rattle.records.specs.declared.fault.Fault.{Fault}
@@ -7,27 +7,27 @@ use Rattle.records.specs.declared.fault.Fault.TheVariants.{NumberOutOfRange, Pri
 use Rattle.records.specs.declared.fault.Layer.TheVariants.{Book}
 use Rattle.records.specs.declared.fault.Refusal.{Refusal}
 
--- a refusal of the book: its number, and the place of the field at fault or 0
-abbrev pub of_book : ℕ → ℕ → Refusal
+-- a refusal of the book: its number, and the place of the field at fault if one is
+abbrev pub of_book : ℕ → Option ℕ → Refusal
 of_book number place = record { number = number; layer = Book; place = place }
 
 -- how each fault is answered
 abbrev pub refusal : Fault → Refusal
-refusal (NumberOutOfRange place) = of_book 105 place
-refusal (PriceOutOfRange place) = of_book 107 place
-refusal (RateOutOfRange place) = of_book 108 place
-refusal (AmountOutOfRange place) = of_book 109 place
+refusal (NumberOutOfRange place) = of_book 105 (Some place)
+refusal (PriceOutOfRange place) = of_book 107 (Some place)
+refusal (RateOutOfRange place) = of_book 108 (Some place)
+refusal (AmountOutOfRange place) = of_book 109 (Some place)
 refusal (DayOutOfRange place) = of_book 110 place
-refusal UnknownParticipant = of_book 211 0
-refusal AlreadyAdmitted = of_book 212 0
-refusal UnknownGuarantee = of_book 213 0
-refusal NumberUsed = of_book 214 0
-refusal DayPast = of_book 215 0
-refusal TableFull = of_book 216 0
+refusal UnknownParticipant = of_book 211 None
+refusal AlreadyAdmitted = of_book 212 None
+refusal UnknownGuarantee = of_book 213 None
+refusal NumberUsed = of_book 214 None
+refusal DayPast = of_book 215 None
+refusal TableFull = of_book 216 None
 
 -- a calendar list that is refused, for whatever reason, is a day out of range at no field
 abbrev pub of_list : ListFault → Fault
-of_list fault = DayOutOfRange 0
+of_list fault = DayOutOfRange None
 
 -- A reason to refuse a call: the fault, and whether its condition holds.
 pub record Cause (F : Type 0) : Type 0 where
@@ -38,9 +38,9 @@ infix 4 ◌when◌
 abbrev pub ◌when◌ : {F : Type 0} → F → Bool → Cause F
 fault when present = record { fault = fault; present = present }
 
--- the order in which refusals are answered: by number, then by place
+-- the order in which refusals are answered: by number, then by place, with no field first
 abbrev pub order : Refusal → ℕ
-order r = r.number * 256 + r.place
+order r = r.number * 256 + unwrap_or r.place 0
 
 abbrev pub rank : Fault → ℕ
 rank fault = order (refusal fault)

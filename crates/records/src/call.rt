@@ -112,7 +112,7 @@ impl Terms {
     {
         price_in_range(self.reference, Fault::PriceOutOfRange { place: 5 })?;
         PERCENT.check(self.margin, Fault::RateOutOfRange { place: 3 })?;
-        DAY.check(self.first_day, Fault::DayOutOfRange { place: 4 })
+        DAY.check(self.first_day, Fault::DayOutOfRange { place: Some(4) })
     }
 }
 
@@ -134,7 +134,7 @@ fn check_post(
 {
     check_guarantee(participant, guarantee)?;
     CENTS.check(cents, Fault::AmountOutOfRange { place: 5 })?;
-    day_in_range(last_day, Fault::DayOutOfRange { place: 4 })
+    day_in_range(last_day, Fault::DayOutOfRange { place: Some(4) })
 }
 
 /// The numbers of a participant and of its guarantee.

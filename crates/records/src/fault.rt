@@ -13,13 +13,13 @@ pub enum Layer {
     Book,
 }
 
-/// A refusal as it is answered: its number, its layer, and the place of the field at fault (the command's letter is at
-/// place 1), or 0 where no field is.
+/// A refusal as it is answered: its number, its layer, and the place of the field at fault, if one is (the command's
+/// letter is at place 1).
 #[derive(Clone, Copy)]
 pub struct Refusal {
     pub number: u16,
     pub layer: Layer,
-    pub place: u8,
+    pub place: Option<u8>,
 }
 
 /// Why the book refuses a call. A fault of an argument has the place of its field.
@@ -33,8 +33,9 @@ pub enum Fault {
     RateOutOfRange { place: u8 },
     /// An amount that is out of range.
     AmountOutOfRange { place: u8 },
-    /// A day after the last one, or a calendar list that is too long, does not rise or goes beyond the last day.
-    DayOutOfRange { place: u8 },
+    /// A day after the last one; or, with no place, a calendar list that is too long, does not rise or goes beyond the last
+    /// day.
+    DayOutOfRange { place: Option<u8> },
     UnknownParticipant,
     AlreadyAdmitted,
     UnknownGuarantee,
@@ -50,7 +51,7 @@ impl From<ListFault> for Fault {
     ghost from_gives = { λ list r. r ≡ of_list list };
 
     fn from(_list: ListFault) -> Fault {
-        Fault::DayOutOfRange { place: 0 }
+        Fault::DayOutOfRange { place: None }
     }
 }
 
@@ -60,17 +61,17 @@ impl Fault {
         ensures as_the_table_has_it { result ≡ refusal self }
     {
         let (number, place) = match self {
-            Fault::NumberOutOfRange { place } => (105, place),
-            Fault::PriceOutOfRange { place } => (107, place),
-            Fault::RateOutOfRange { place } => (108, place),
-            Fault::AmountOutOfRange { place } => (109, place),
+            Fault::NumberOutOfRange { place } => (105, Some(place)),
+            Fault::PriceOutOfRange { place } => (107, Some(place)),
+            Fault::RateOutOfRange { place } => (108, Some(place)),
+            Fault::AmountOutOfRange { place } => (109, Some(place)),
             Fault::DayOutOfRange { place } => (110, place),
-            Fault::UnknownParticipant => (211, 0),
-            Fault::AlreadyAdmitted => (212, 0),
-            Fault::UnknownGuarantee => (213, 0),
-            Fault::NumberUsed => (214, 0),
-            Fault::DayPast => (215, 0),
-            Fault::TableFull => (216, 0),
+            Fault::UnknownParticipant => (211, None),
+            Fault::AlreadyAdmitted => (212, None),
+            Fault::UnknownGuarantee => (213, None),
+            Fault::NumberUsed => (214, None),
+            Fault::DayPast => (215, None),
+            Fault::TableFull => (216, None),
         };
         Refusal {
             number,

@@ -1,13 +1,13 @@
 -- The text of answer lines and refusal lines, and a buffer over which text is written.
-use Rattle.std.specs.Prelude.{◌≡◌, ℕ, ◌+◌, ◌^◌, ◌<◌, ◌≤◌, List, [], ◌∷◌, ◌++◌, length, take, drop, ℤ, pos, Some, None, decimal, Option, unsigned_abs}
+use Rattle.std.specs.Prelude.{◌≡◌, ℕ, ◌^◌, ◌<◌, ◌≤◌, List, [], ◌∷◌, ◌++◌, length, drop, ℤ, pos, Some, None, decimal, Option, unwrap_or, unsigned_abs}
 use Rattle.std.specs.List.{flat_map}
 use Rattle.std.specs.Fmt.{signed_decimal}
-use Rattle.wire.specs.declared.lines.AnswerLine.{AnswerLine}
+use Rattle.records.specs.declared.answer.Answer.{Answer}
 use Rattle.records.specs.declared.answer.Status.{Status}
 use Rattle.records.specs.declared.answer.Status.TheVariants.{New, CountedBefore}
 use Rattle.records.specs.declared.fault.Layer.{Layer}
 use Rattle.records.specs.declared.fault.Layer.TheVariants.{Line, Field, Book}
-use Rattle.wire.specs.declared.lines.RefusalLine.{RefusalLine}
+use Rattle.records.specs.declared.fault.Refusal.{Refusal}
 use Rattle.wire.specs.Fields.{comma, before, fields}
 use Rattle.wire.specs.Numbers.{number_of, price_of}
 
@@ -15,9 +15,13 @@ use Rattle.wire.specs.Numbers.{number_of, price_of}
 abbrev pub line_feed : ℕ
 line_feed = 10
 
+-- fields, with a comma before each
+abbrev pub after_commas : List (List ℕ) → List ℕ
+after_commas fs = flat_map (λ f. comma ∷ f) fs
+
 -- a line: its number, the fields after it with a comma before each, and a line feed
 abbrev pub line_of : ℕ → List (List ℕ) → List ℕ
-line_of number fs = (decimal number ++ flat_map (λ f. comma ∷ f) fs) ++ line_feed ∷ []
+line_of number fs = (decimal number ++ after_commas fs) ++ line_feed ∷ []
 
 -- the digit 0 for a call that was carried out, 1 for a confirmation that was counted before
 abbrev pub status_digit : Status → ℕ
@@ -31,27 +35,17 @@ layer_letter Field = 70
 layer_letter Book = 66
 
 -- what follows the line number in an answer line: status, exposure, credit position, capacity
-abbrev pub answer_fields : AnswerLine → List (List ℕ)
-answer_fields a = (status_digit a.answer.status ∷ []) ∷ signed_decimal a.answer.exposure ∷ signed_decimal a.answer.credit_position ∷ signed_decimal a.answer.capacity ∷ []
+abbrev pub answer_fields : Answer → List (List ℕ)
+answer_fields a = (status_digit a.status ∷ []) ∷ signed_decimal a.exposure ∷ signed_decimal a.credit_position ∷ signed_decimal a.capacity ∷ []
 
--- what follows the line number in a refusal line: refusal number, layer, the field's place
-abbrev pub refusal_fields : RefusalLine → List (List ℕ)
-refusal_fields r = decimal r.refusal.number ∷ (layer_letter r.refusal.layer ∷ []) ∷ decimal r.refusal.place ∷ []
-
-unfoldable pub answer_text : AnswerLine → List ℕ
-answer_text a = line_of a.line (answer_fields a)
-
-unfoldable pub refusal_text : RefusalLine → List ℕ
-refusal_text r = line_of r.line (refusal_fields r)
+-- what follows the line number in a refusal line: refusal number, layer, the field's place or 0 where no field is at fault
+abbrev pub refusal_fields : Refusal → List (List ℕ)
+refusal_fields r = decimal r.number ∷ (layer_letter r.layer ∷ []) ∷ decimal (unwrap_or r.place 0) ∷ []
 
 -- a text is a line number, the fields fs and a line feed, and its fields by commas are no others
 abbrev pub FallsInto : List ℕ → ℕ → List (List ℕ) → Type 0
 FallsInto text number fs =
     (row : List ℕ) → row ++ line_feed ∷ [] ≡ text → (before row ≡ decimal number) × (fields row ≡ fs)
-
--- a buffer after a text was written over its bytes from a place on
-abbrev pub overwritten : List ℕ → ℕ → List ℕ → List ℕ
-overwritten buffer at text = take at buffer ++ (text ++ drop (at + length text) buffer)
 
 -- a buffer after a text was written over its front
 abbrev pub fronted : List ℕ → List ℕ → List ℕ

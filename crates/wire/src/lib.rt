@@ -7,9 +7,7 @@ mod numbers;
 mod stream;
 
 pub use fields::{Field, Reader, count_fields};
-pub use lines::{
-    ANSWER_BYTES, AnswerLine, NUMBER_BYTES, RefusalLine, write_answer, write_number, write_refusal,
-};
+pub use lines::{ANSWER_BYTES, NUMBER_BYTES, Reply, write_line, write_number};
 pub use numbers::{last_day, letter, number, price};
 pub use stream::{LineStart, first_line};
 
@@ -71,39 +69,33 @@ mod tests {
 
     #[test]
     fn answers_written(rt: HostRuntime) -> Result<(), Fail> {
-        let answer = AnswerLine {
-            line: 4,
-            answer: Answer {
-                status: Status::New,
-                exposure: -4_500_000_000,
-                credit_position: 0,
-                capacity: 350_000_000,
-            },
+        let answer = Answer {
+            status: Status::New,
+            exposure: -4_500_000_000,
+            credit_position: 0,
+            capacity: 350_000_000,
         };
         let mut buffer = [b'x'; 96];
-        let length = write_answer(&mut buffer, &answer).ok_or("too short")?;
+        let length = write_line(&mut buffer, 4, &answer).ok_or("too short")?;
         assert_eq!(rt; length, 28);
         assert!(rt;
             &buffer[0..28] == b"4,0,-4500000000,0,350000000\n".as_slice() && buffer[28] == b'x'
         );
         let mut short = [b'x'; 95];
-        assert_eq!(rt; write_answer(&mut short, &answer), None);
+        assert_eq!(rt; write_line(&mut short, 4, &answer), None);
         assert!(rt; short[0] == b'x');
         Ok(())
     }
 
     #[test]
     fn refusals_written(rt: HostRuntime) -> Result<(), Fail> {
-        let refusal = RefusalLine {
-            line: 5,
-            refusal: Refusal {
-                number: 218,
-                layer: Layer::Book,
-                place: 0,
-            },
+        let refusal = Refusal {
+            number: 218,
+            layer: Layer::Book,
+            place: None,
         };
         let mut buffer = [b'x'; 96];
-        let length = write_refusal(&mut buffer, &refusal).ok_or("too short")?;
+        let length = write_line(&mut buffer, 5, &refusal).ok_or("too short")?;
         assert_eq!(rt; length, 10);
         assert!(rt; &buffer[0..10] == b"5,218,B,0\n".as_slice() && buffer[10] == b'x');
         Ok(())

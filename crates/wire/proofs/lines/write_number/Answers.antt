@@ -1,8 +1,11 @@
-use Rattle.std.proofs.Common.{arith}
-use Rattle.wire.proofs.Writing.{stands_number_alone}
+use Rattle.std.proofs.Common.{◌∙◌}
+use Rattle.std.proofs.lemmas.Int.{to_z-of_z}
+use Rattle.std.proofs.lemmas.Option.{IfSome_then}
+use Rattle.wire.proofs.Writing.{reads_back}
 use Rattle.wire.proofs.lines.write_number.Goals as goal
 
-pub returns : goal.returns
-returns c =
-    let o = stands_number_alone c.args.buffer.now c.put_signed.new.buffer c.put_signed.result c.args.value c.ranges.value c.put_signed.ensures.stands_there c.put_signed.ensures.next_place in
-    record { short_buffer_is_untouched = λ h. absurd (omega arith); number_fits_the_least_buffer = omega arith; number_stands_at_the_front = λ _. o.0; reads_back = o.1 }
+pub returns-clause-reads_back : goal.returns-clause-reads_back
+returns-clause-reads_back c =
+    let f = c.ranges.value in
+    let t = simp to_z-of_z at c.format.ensures.text in
+    IfSome_then _ c.write_front.ensures.text_is_that_front (λ n e. reads_back c.args.value _ (e ∙ c.as_bytes.ensures.value ∙ t))
