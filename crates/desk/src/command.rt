@@ -23,13 +23,13 @@ pub enum Command {
     Perform(Call),
 }
 
-impl MarketName {
-    /// The rule of the market, at a reference price of 0 until one is published.
-    pub fn rule(self) -> Market
-        ensures of_that_market { Follows self result }
-    {
+/// The rule of the market, at a reference price of 0 until one is published.
+impl From<MarketName> for Market {
+    ghost from_gives = { λ name rule. Follows name rule };
+
+    fn from(name: MarketName) -> Market {
         let reference = Price { cents: 0 };
-        match self {
+        match name {
             MarketName::Xbid => Market::Xbid(Xbid { reference }),
             MarketName::Mpeg => Market::Mpeg(Mpeg { reference }),
             MarketName::Pce => Market::Pce(Pce { reference }),
