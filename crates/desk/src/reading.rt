@@ -4,7 +4,7 @@ ghost use Rattle.std.specs.Prelude.{◌≡◌};
 ghost use Rattle.records.specs.Refusals.{fault_if};
 ghost use Rattle.wire.specs.Fields.{fields};
 ghost use Rattle.wire.specs.Numbers.{number_of, price_of, last_day_of};
-ghost use Rattle.desk.specs.Commands.{NextField, Ended, One, Two, Three, Four};
+ghost use Rattle.desk.specs.Commands.{NextField, Ended};
 ghost use Rattle.desk.specs.Commands.{held_at, market_of, unknown_market, Led, Reads, Takes, opens, admits, posts, returns, queries};
 ghost use Rattle.desk.specs.declared.fault.LineFault.TheVariants.{UnknownLetter, NotANumber};
 
@@ -17,10 +17,7 @@ use wire::{Field, Reader};
 fn next<'a>(reader: &mut Reader<'a>) -> Result<Field<'a>, LineFault>
     ensures next_field_or_too_few { NextField reader.old result reader.new }
 {
-    match reader.next_field() {
-        Some(field) => Ok(field),
-        None => Err(LineFault::WrongFieldCount),
-    }
+    reader.next_field().ok_or(LineFault::WrongFieldCount)
 }
 
 /// That no field is left.
@@ -31,48 +28,6 @@ fn end(reader: &mut Reader) -> Result<(), LineFault>
         Some(_) => Err(LineFault::WrongFieldCount),
         None => Ok(()),
     }
-}
-
-fn one(rest: &[u8]) -> Result<Field<'_>, LineFault>
-    ensures just_one_field { One rest.now result }
-{
-    let mut reader = Reader::new(rest);
-    let first = next(&mut reader)?;
-    end(&mut reader)?;
-    Ok(first)
-}
-
-fn two(rest: &[u8]) -> Result<(Field<'_>, Field<'_>), LineFault>
-    ensures just_two_fields { Two rest.now result }
-{
-    let mut reader = Reader::new(rest);
-    let first = next(&mut reader)?;
-    let second = next(&mut reader)?;
-    end(&mut reader)?;
-    Ok((first, second))
-}
-
-fn three(rest: &[u8]) -> Result<(Field<'_>, Field<'_>, Field<'_>), LineFault>
-    ensures just_three_fields { Three rest.now result }
-{
-    let mut reader = Reader::new(rest);
-    let first = next(&mut reader)?;
-    let second = next(&mut reader)?;
-    let third = next(&mut reader)?;
-    end(&mut reader)?;
-    Ok((first, second, third))
-}
-
-fn four(rest: &[u8]) -> Result<(Field<'_>, Field<'_>, Field<'_>, Field<'_>), LineFault>
-    ensures just_four_fields { Four rest.now result }
-{
-    let mut reader = Reader::new(rest);
-    let first = next(&mut reader)?;
-    let second = next(&mut reader)?;
-    let third = next(&mut reader)?;
-    let fourth = next(&mut reader)?;
-    end(&mut reader)?;
-    Ok((first, second, third, fourth))
 }
 
 fn number(field: Field) -> Result<u64, LineFault>
@@ -117,20 +72,22 @@ fn market(field: Field) -> Result<MarketName, LineFault>
 fn check_market(rest: &[u8]) -> Result<(), LineFault>
     ensures fault_at_an_unknown_market { result ≡ fault_if (unknown_market (fields rest.now)) (UnknownLetter 2) }
 {
-    match Reader::new(rest).next_field() {
-        Some(field) => {
-            market(field)?;
-            Ok(())
-        }
-        None => Ok(()),
+    if let Some(field) = Reader::new(rest).next_field() {
+        market(field)?;
     }
+    Ok(())
 }
 
 fn read_open(rest: &[u8]) -> Result<Command, LineFault>
     ensures fault_due_or_command { Takes opens rest.now result }
 {
     check_market(rest)?;
-    let (letter, margin, first_day, reference) = four(rest)?;
+    let mut fields = Reader::new(rest);
+    let letter = next(&mut fields)?;
+    let margin = next(&mut fields)?;
+    let first_day = next(&mut fields)?;
+    let reference = next(&mut fields)?;
+    end(&mut fields)?;
     let market = market(letter)?;
     let terms = Terms {
         margin: number(margin)?,
@@ -143,7 +100,11 @@ fn read_open(rest: &[u8]) -> Result<Command, LineFault>
 fn read_admit(rest: &[u8]) -> Result<Command, LineFault>
     ensures fault_due_or_command { Takes admits rest.now result }
 {
-    let (participant, vat, share) = three(rest)?;
+    let mut fields = Reader::new(rest);
+    let participant = next(&mut fields)?;
+    let vat = next(&mut fields)?;
+    let share = next(&mut fields)?;
+    end(&mut fields)?;
     Ok(Command::Perform(Call::Admit {
         participant: number(participant)?,
         vat: number(vat)?,
@@ -154,7 +115,12 @@ fn read_admit(rest: &[u8]) -> Result<Command, LineFault>
 fn read_post(rest: &[u8]) -> Result<Command, LineFault>
     ensures fault_due_or_command { Takes posts rest.now result }
 {
-    let (participant, guarantee, day, cents) = four(rest)?;
+    let mut fields = Reader::new(rest);
+    let participant = next(&mut fields)?;
+    let guarantee = next(&mut fields)?;
+    let day = next(&mut fields)?;
+    let cents = next(&mut fields)?;
+    end(&mut fields)?;
     Ok(Command::Perform(Call::Post {
         participant: number(participant)?,
         guarantee: number(guarantee)?,
@@ -166,7 +132,10 @@ fn read_post(rest: &[u8]) -> Result<Command, LineFault>
 fn read_return(rest: &[u8]) -> Result<Command, LineFault>
     ensures fault_due_or_command { Takes returns rest.now result }
 {
-    let (participant, guarantee) = two(rest)?;
+    let mut fields = Reader::new(rest);
+    let participant = next(&mut fields)?;
+    let guarantee = next(&mut fields)?;
+    end(&mut fields)?;
     Ok(Command::Perform(Call::Return {
         participant: number(participant)?,
         guarantee: number(guarantee)?,
@@ -176,7 +145,9 @@ fn read_return(rest: &[u8]) -> Result<Command, LineFault>
 fn read_query(rest: &[u8]) -> Result<Command, LineFault>
     ensures fault_due_or_command { Takes queries rest.now result }
 {
-    let participant = one(rest)?;
+    let mut fields = Reader::new(rest);
+    let participant = next(&mut fields)?;
+    end(&mut fields)?;
     Ok(Command::Perform(Call::Query {
         participant: number(participant)?,
     }))
