@@ -1,33 +1,30 @@
 //! The reading of a line: its letter chooses the command, the rest are its fields.
 
 ghost use Rattle.std.specs.Prelude.{◌≡◌};
+ghost use Rattle.std.specs.Option.{ok_or};
 ghost use Rattle.records.specs.Refusals.{fault_if};
 ghost use Rattle.wire.specs.Fields.{fields};
-ghost use Rattle.wire.specs.Numbers.{number_of, price_of, last_day_of};
 ghost use Rattle.desk.specs.Commands.{NextField, Ended, One, Two, Three, Four};
-ghost use Rattle.desk.specs.Commands.{held_at, market_of, unknown_market, Led, Reads, Takes, opens, admits, posts, returns, queries};
+ghost use Rattle.desk.specs.Commands.{market_of, unknown_market, Led, Reads, Takes, opens, admits, posts, returns, queries};
 ghost use Rattle.desk.specs.declared.fault.LineFault.TheVariants.{UnknownLetter, NotANumber};
 
 use crate::command::{Command, MarketName};
 use crate::fault::LineFault;
 use records::{Call, Terms};
-use wire::{Field, Reader};
+use wire::{Field, Form, Reader};
 
 /// The next field, which has to be there.
 fn next<'a>(reader: &mut Reader<'a>) -> Result<Field<'a>, LineFault>
     ensures next_field_or_too_few { NextField reader.old result reader.new }
 {
-    match reader.next_field() {
-        Some(field) => Ok(field),
-        None => Err(LineFault::WrongFieldCount),
-    }
+    reader.next().ok_or(LineFault::WrongFieldCount)
 }
 
 /// That no field is left.
 fn end(reader: &mut Reader) -> Result<(), LineFault>
     ensures none_left_or_too_many { Ended reader.old result }
 {
-    match reader.next_field() {
+    match reader.next() {
         Some(_) => Err(LineFault::WrongFieldCount),
         None => Ok(()),
     }
@@ -75,49 +72,24 @@ fn four(rest: &[u8]) -> Result<(Field<'_>, Field<'_>, Field<'_>, Field<'_>), Lin
     Ok((first, second, third, fourth))
 }
 
-fn number(field: Field) -> Result<u64, LineFault>
-    ensures number_or_fault_at_its_place { result ≡ held_at (number_of field.entry.bytes.now) (NotANumber field.entry.place) }
+/// What a field holds in its form.
+fn held<T: Form>(field: Field) -> Result<T, LineFault>
+    ensures value_or_fault_at_its_place { result ≡ ok_or (T.value_of field.entry.bytes.now) (NotANumber field.entry.place) }
 {
-    match wire::number(field.bytes) {
-        Some(n) => Ok(n),
-        None => Err(LineFault::NotANumber { place: field.place }),
-    }
-}
-
-fn price(field: Field) -> Result<i64, LineFault>
-    ensures price_or_fault_at_its_place { result ≡ held_at (price_of field.entry.bytes.now) (NotANumber field.entry.place) }
-{
-    match wire::price(field.bytes) {
-        Some(price) => Ok(price),
-        None => Err(LineFault::NotANumber { place: field.place }),
-    }
-}
-
-fn last_day(field: Field) -> Result<Option<u64>, LineFault>
-    ensures last_day_or_fault_at_its_place { result ≡ held_at (last_day_of field.entry.bytes.now) (NotANumber field.entry.place) }
-{
-    match wire::last_day(field.bytes) {
-        Some(day) => Ok(day),
-        None => Err(LineFault::NotANumber { place: field.place }),
-    }
+    T::read(field.bytes).ok_or(LineFault::NotANumber { place: field.place })
 }
 
 fn market(field: Field) -> Result<MarketName, LineFault>
-    ensures market_or_fault_at_its_place { result ≡ held_at (market_of field.entry.bytes.now) (UnknownLetter field.entry.place) }
+    ensures market_or_fault_at_its_place { result ≡ ok_or (market_of field.entry.bytes.now) (UnknownLetter field.entry.place) }
 {
-    match field.bytes {
-        [b'X'] => Ok(MarketName::Xbid),
-        [b'M'] => Ok(MarketName::Mpeg),
-        [b'P'] => Ok(MarketName::Pce),
-        _ => Err(LineFault::UnknownLetter { place: field.place }),
-    }
+    MarketName::read(field.bytes).ok_or(LineFault::UnknownLetter { place: field.place })
 }
 
 /// A market that is named wrongly comes before a wrong count of fields.
 fn check_market(rest: &[u8]) -> Result<(), LineFault>
     ensures fault_at_an_unknown_market { result ≡ fault_if (unknown_market (fields rest.now)) (UnknownLetter 2) }
 {
-    match Reader::new(rest).next_field() {
+    match Reader::new(rest).next() {
         Some(field) => {
             market(field)?;
             Ok(())
@@ -133,9 +105,9 @@ fn read_open(rest: &[u8]) -> Result<Command, LineFault>
     let (letter, margin, first_day, reference) = four(rest)?;
     let market = market(letter)?;
     let terms = Terms {
-        margin: number(margin)?,
-        first_day: number(first_day)?,
-        reference: price(reference)?,
+        margin: held(margin)?,
+        first_day: held(first_day)?,
+        reference: held(reference)?,
     };
     Ok(Command::Open { market, terms })
 }
@@ -145,9 +117,9 @@ fn read_admit(rest: &[u8]) -> Result<Command, LineFault>
 {
     let (participant, vat, share) = three(rest)?;
     Ok(Command::Perform(Call::Admit {
-        participant: number(participant)?,
-        vat: number(vat)?,
-        share: number(share)?,
+        participant: held(participant)?,
+        vat: held(vat)?,
+        share: held(share)?,
     }))
 }
 
@@ -156,10 +128,10 @@ fn read_post(rest: &[u8]) -> Result<Command, LineFault>
 {
     let (participant, guarantee, day, cents) = four(rest)?;
     Ok(Command::Perform(Call::Post {
-        participant: number(participant)?,
-        guarantee: number(guarantee)?,
-        last_day: last_day(day)?,
-        cents: number(cents)?,
+        participant: held(participant)?,
+        guarantee: held(guarantee)?,
+        last_day: held(day)?,
+        cents: held(cents)?,
     }))
 }
 
@@ -168,8 +140,8 @@ fn read_return(rest: &[u8]) -> Result<Command, LineFault>
 {
     let (participant, guarantee) = two(rest)?;
     Ok(Command::Perform(Call::Return {
-        participant: number(participant)?,
-        guarantee: number(guarantee)?,
+        participant: held(participant)?,
+        guarantee: held(guarantee)?,
     }))
 }
 
@@ -178,7 +150,7 @@ fn read_query(rest: &[u8]) -> Result<Command, LineFault>
 {
     let participant = one(rest)?;
     Ok(Command::Perform(Call::Query {
-        participant: number(participant)?,
+        participant: held(participant)?,
     }))
 }
 
