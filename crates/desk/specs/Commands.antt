@@ -24,6 +24,16 @@ market_of (letter ∷ []) =
     cond (letter == 88) (Some Xbid) (cond (letter == 77) (Some Mpeg) (cond (letter == 80) (Some Pce) None))
 market_of (letter ∷ next ∷ rest) = None
 
+-- the letter that names a market
+abbrev pub letter_for : MarketName → ℕ
+letter_for Xbid = 88
+letter_for Mpeg = 77
+letter_for Pce = 80
+
+-- a field that names a market: its letter alone
+abbrev pub Names : List ℕ → MarketName → Type 0
+Names bytes name = bytes ≡ letter_for name ∷ []
+
 -- the rule of the market that is named
 abbrev pub Follows : MarketName → Market → Type 0
 Follows Xbid (market.Xbid rule) = Unit {0}
@@ -160,7 +170,3 @@ abbrev pub Ended : Reader → Result (Unit {0}) LineFault → Type 0
 Ended reader (Ok u) = remaining reader ≡ []
 Ended reader (Err fault) = (0 < length (remaining reader)) × (fault ≡ WrongFieldCount)
 
--- what a field holds in its form, or the fault at its place
-abbrev pub held_at : {X : Type 0} → Option X → LineFault → Result X LineFault
-held_at None fault = Err fault
-held_at (Some x) fault = Ok x
