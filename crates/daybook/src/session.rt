@@ -1,7 +1,7 @@
 //! The desk with its memory, and the place where its answers go.
 
-use anyhow::anyhow;
-use desk::Desk;
+use anyhow::bail;
+use desk::{Desk, LineFault};
 use std::alloc::{AllocError, Global};
 use std::io::Write;
 use wire::ANSWER_BYTES;
@@ -42,12 +42,12 @@ impl<W: Write + Drop> Session<W> {
             &mut self.scratch,
         ) {
             Ok(length) => length,
-            Err(refused) => refused.length,
+            Err(refused) => match refused.fault {
+                LineFault::OutOfMemory => bail!("no memory for the book"),
+                _ => refused.length,
+            },
         };
-        if length == 0 {
-            return Err(anyhow!("no memory for the book"));
-        }
-        self.out.write_all(&buffer[0..length])?;
+        self.out.write_all(&buffer[..length])?;
         Ok(())
     }
 

@@ -1,7 +1,6 @@
 -- The book's fault and answer, carried up into the line's. Assumes nothing.
-use Rattle.std.proofs.Common.{◌≡◌, ℕ, Bool, true, false, cond, List, [], ◌∷◌, ◌++◌, Some, None, Ok, Err, Option, sym, refl, ap, ◌∙◌, subst, arith}
+use Rattle.std.proofs.Common.{◌≡◌, ℕ, Bool, true, false, cond, List, [], ◌∷◌, ◌++◌, Some, None, Err, Option, sym, refl, ap, ◌∙◌, subst, arith}
 use Rattle.std.specs.Option.{option_map}
-use Rattle.records.specs.declared.answer.Answer.{Answer}
 use Rattle.records.specs.declared.call.Call.{Call}
 use Rattle.records.specs.declared.fault.Fault.{Fault}
 use Rattle.records.specs.Refusals.{Cause, ◌when◌, due}
@@ -35,13 +34,6 @@ module _ (call : Call) (s t : State Market Weeks) where
   refused_by (Some g) f (e, same) = (let h : f ≡ g = cc in ap (λ x. Err (Book x)) h, ap Some same)
   refused_by None f (e, same) = absurd (let z : ◌≡◌ {A = ℕ} 0 1 = cc in omega arith)
 
-  answered_by : (o : Option Fault) (a : Answer) → Outcome call s o (Ok a) t → CommandedBy (option_map Book o) (Perform call) (Some s) (Ok a) (Some t)
-  answered_by (Some g) a (e, same) = absurd (let z : ◌≡◌ {A = ℕ} 0 1 = cc in omega arith)
-  answered_by None a (e, same) = (let h : a ≡ _ = cc in ap Ok h, ap Some same)
-
   -- a call of the book is the command of the line
   pub refused_command : (f : Fault) → Performs call s (Err f) t → Commanded (Perform call) (Some s) (Err (Book f)) (Some t)
   refused_command f p = subst (λ o. CommandedBy o (Perform call) (Some s) (Err (Book f)) (Some t)) (sym due_with_book) (refused_by (due (causes call s)) f p.outcome)
-
-  pub answered_command : (a : Answer) → Performs call s (Ok a) t → Commanded (Perform call) (Some s) (Ok a) (Some t)
-  answered_command a p = subst (λ o. CommandedBy o (Perform call) (Some s) (Ok a) (Some t)) (sym due_with_book) (answered_by (due (causes call s)) a p.outcome)

@@ -1,17 +1,15 @@
 -- How a line is shown to be handled by the fault due. Assumes nothing.
-use Rattle.std.proofs.Common.{◌≡◌, ℕ, ◌+◌, ◌<◌, ◌≤◌, Bool, true, false, ltb, List, [], ◌∷◌, ◌++◌, length, drop, Some, None, Err, Option, Result, sym, refl, ap, ◌∙◌, subst, arith, length-append}
+use Rattle.std.proofs.Common.{◌≡◌, ℕ, ◌<◌, ◌≤◌, Bool, true, false, ltb, List, [], ◌∷◌, ◌++◌, length, Some, None, Err, Option, Result, sym, refl, ap, subst, arith}
 use Rattle.std.proofs.lemmas.Bool.Decides.{nat_tests}
 use Rattle.records.specs.declared.answer.Answer.{Answer}
 use Rattle.records.specs.Refusals.{◌when◌, due, Smallest}
 use Rattle.records.proofs.Refusing.{due_first, due_second, due_smallest, rises}
-use Rattle.wire.specs.Lines.{fronted}
 use Rattle.desk.specs.declared.command.Command.{Command}
 use Rattle.desk.specs.declared.fault.LineFault.{LineFault}
 use Rattle.desk.specs.declared.fault.LineFault.TheVariants.{BufferTooShort, LineTooLong}
-use Rattle.desk.specs.declared.fault.Refused.{Refused}
 use Rattle.desk.specs.Faults.{rank}
 use Rattle.desk.specs.Commands.{Kind, opens, admits, posts, returns, queries, kind_of, form_after, command_after, line_form, command_of}
-use Rattle.desk.specs.Lines.{Books, Done, Handled, Commanded, CommandedBy, Answered, line_causes, causes, against_books, text, told}
+use Rattle.desk.specs.Lines.{Books, Done, Handled, Commanded, CommandedBy, Answered, line_causes, causes, against_books}
 
 module _ (line : List ℕ) (before after : Books) where
   module _ (short : length line ≤ 80) where
@@ -66,22 +64,3 @@ module _ (number : ℕ) (line buffer : List ℕ) (before : Books) where
         answered = rw t;
         written = rw t;
       }
-
-  -- a reply that is written
-  pub answered_long : (after : Books) (reply : Result Answer LineFault) (r : Result ℕ Refused) (buffer' : List ℕ) (n : ℕ) → 96 ≤ length buffer →
-      Handled (due (line_causes line before)) line before reply after → n ≡ length (text number reply) → r ≡ told reply n → buffer' ≡ fronted (text number reply) buffer →
-      Answered number line buffer before r buffer' after
-  answered_long after reply r buffer' n long handled size told_so wrote =
-      let t : ltb (length buffer) 96 ≡ false = grind (arith, nat_tests) in
-      record {
-        reply = reply;
-        handled = rw t handled;
-        answered = rw t (told_so ∙ ap (told reply) size);
-        written = rw t wrote;
-      }
-
--- a text that stands at the front of a buffer, and leaves it as long as it was, lies within it
-pub lies_within : (buffer buffer' text : List ℕ) → length buffer' ≡ length buffer → buffer' ≡ fronted text buffer → length text ≤ length buffer
-lies_within buffer buffer' text long wrote =
-    let e : length buffer' ≡ length text + length (drop (length text) buffer) = ap length wrote ∙ length-append text (drop (length text) buffer) in
-    omega arith

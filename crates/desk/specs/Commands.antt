@@ -24,6 +24,16 @@ market_of (letter ∷ []) =
     cond (letter == 88) (Some Xbid) (cond (letter == 77) (Some Mpeg) (cond (letter == 80) (Some Pce) None))
 market_of (letter ∷ next ∷ rest) = None
 
+-- the letter that names a market
+abbrev pub letter_for : MarketName → ℕ
+letter_for Xbid = 88
+letter_for Mpeg = 77
+letter_for Pce = 80
+
+-- a field that names a market: its letter alone
+abbrev pub Names : List ℕ → MarketName → Type 0
+Names bytes name = bytes ≡ letter_for name ∷ []
+
 -- the rule of the market that is named
 abbrev pub Follows : MarketName → Market → Type 0
 Follows Xbid (market.Xbid rule) = Unit {0}
@@ -160,27 +170,3 @@ abbrev pub Ended : Reader → Result (Unit {0}) LineFault → Type 0
 Ended reader (Ok u) = remaining reader ≡ []
 Ended reader (Err fault) = (0 < length (remaining reader)) × (fault ≡ WrongFieldCount)
 
--- the fields of a text one by one, with their places, or the fault that they are not so many
-abbrev pub One : List ℕ → Result Field LineFault → Type 0
-One rest (Ok a) = (fields rest ≡ a.bytes.now ∷ []) × (a.place ≡ 2)
-One rest (Err fault) = (wrong_count (fields rest) 1 ≡ true) × (fault ≡ WrongFieldCount)
-
-abbrev pub Two : List ℕ → Result (Field × Field) LineFault → Type 0
-Two rest (Ok (a, b)) = (fields rest ≡ a.bytes.now ∷ b.bytes.now ∷ []) × (a.place ≡ 2) × (b.place ≡ 3)
-Two rest (Err fault) = (wrong_count (fields rest) 2 ≡ true) × (fault ≡ WrongFieldCount)
-
-abbrev pub Three : List ℕ → Result (Field × Field × Field) LineFault → Type 0
-Three rest (Ok (a, b, c)) =
-    (fields rest ≡ a.bytes.now ∷ b.bytes.now ∷ c.bytes.now ∷ []) × (a.place ≡ 2) × (b.place ≡ 3) × (c.place ≡ 4)
-Three rest (Err fault) = (wrong_count (fields rest) 3 ≡ true) × (fault ≡ WrongFieldCount)
-
-abbrev pub Four : List ℕ → Result (Field × Field × Field × Field) LineFault → Type 0
-Four rest (Ok (a, b, c, d)) =
-    (fields rest ≡ a.bytes.now ∷ b.bytes.now ∷ c.bytes.now ∷ d.bytes.now ∷ [])
-    × (a.place ≡ 2) × (b.place ≡ 3) × (c.place ≡ 4) × (d.place ≡ 5)
-Four rest (Err fault) = (wrong_count (fields rest) 4 ≡ true) × (fault ≡ WrongFieldCount)
-
--- what a field holds in its form, or the fault at its place
-abbrev pub held_at : {X : Type 0} → Option X → LineFault → Result X LineFault
-held_at None fault = Err fault
-held_at (Some x) fault = Ok x

@@ -1,141 +1,73 @@
 //! The reading of a line: its letter chooses the command, the rest are its fields.
 
 ghost use Rattle.std.specs.Prelude.{◌≡◌};
+ghost use Rattle.std.specs.Option.{ok_or};
 ghost use Rattle.records.specs.Refusals.{fault_if};
 ghost use Rattle.wire.specs.Fields.{fields};
-ghost use Rattle.wire.specs.Numbers.{number_of, price_of, last_day_of};
-ghost use Rattle.desk.specs.Commands.{NextField, Ended, One, Two, Three, Four};
-ghost use Rattle.desk.specs.Commands.{held_at, market_of, unknown_market, Led, Reads, Takes, opens, admits, posts, returns, queries};
+ghost use Rattle.desk.specs.Commands.{NextField, Ended};
+ghost use Rattle.desk.specs.Commands.{market_of, unknown_market, Led, Reads, Takes, opens, admits, posts, returns, queries};
 ghost use Rattle.desk.specs.declared.fault.LineFault.TheVariants.{UnknownLetter, NotANumber};
 
 use crate::command::{Command, MarketName};
 use crate::fault::LineFault;
 use records::{Call, Terms};
-use wire::{Field, Reader};
+use wire::{Field, Form, Reader};
 
 /// The next field, which has to be there.
 fn next<'a>(reader: &mut Reader<'a>) -> Result<Field<'a>, LineFault>
     ensures next_field_or_too_few { NextField reader.old result reader.new }
 {
-    match reader.next_field() {
-        Some(field) => Ok(field),
-        None => Err(LineFault::WrongFieldCount),
-    }
+    reader.next().ok_or(LineFault::WrongFieldCount)
 }
 
 /// That no field is left.
 fn end(reader: &mut Reader) -> Result<(), LineFault>
     ensures none_left_or_too_many { Ended reader.old result }
 {
-    match reader.next_field() {
+    match reader.next() {
         Some(_) => Err(LineFault::WrongFieldCount),
         None => Ok(()),
     }
 }
 
-fn one(rest: &[u8]) -> Result<Field<'_>, LineFault>
-    ensures just_one_field { One rest.now result }
+/// What a field holds in its form.
+fn held<T: Form>(field: Field) -> Result<T, LineFault>
+    ensures value_or_fault_at_its_place { result ≡ ok_or (T.value_of field.entry.bytes.now) (NotANumber field.entry.place) }
 {
-    let mut reader = Reader::new(rest);
-    let first = next(&mut reader)?;
-    end(&mut reader)?;
-    Ok(first)
-}
-
-fn two(rest: &[u8]) -> Result<(Field<'_>, Field<'_>), LineFault>
-    ensures just_two_fields { Two rest.now result }
-{
-    let mut reader = Reader::new(rest);
-    let first = next(&mut reader)?;
-    let second = next(&mut reader)?;
-    end(&mut reader)?;
-    Ok((first, second))
-}
-
-fn three(rest: &[u8]) -> Result<(Field<'_>, Field<'_>, Field<'_>), LineFault>
-    ensures just_three_fields { Three rest.now result }
-{
-    let mut reader = Reader::new(rest);
-    let first = next(&mut reader)?;
-    let second = next(&mut reader)?;
-    let third = next(&mut reader)?;
-    end(&mut reader)?;
-    Ok((first, second, third))
-}
-
-fn four(rest: &[u8]) -> Result<(Field<'_>, Field<'_>, Field<'_>, Field<'_>), LineFault>
-    ensures just_four_fields { Four rest.now result }
-{
-    let mut reader = Reader::new(rest);
-    let first = next(&mut reader)?;
-    let second = next(&mut reader)?;
-    let third = next(&mut reader)?;
-    let fourth = next(&mut reader)?;
-    end(&mut reader)?;
-    Ok((first, second, third, fourth))
-}
-
-fn number(field: Field) -> Result<u64, LineFault>
-    ensures number_or_fault_at_its_place { result ≡ held_at (number_of field.entry.bytes.now) (NotANumber field.entry.place) }
-{
-    match wire::number(field.bytes) {
-        Some(n) => Ok(n),
-        None => Err(LineFault::NotANumber { place: field.place }),
-    }
-}
-
-fn price(field: Field) -> Result<i64, LineFault>
-    ensures price_or_fault_at_its_place { result ≡ held_at (price_of field.entry.bytes.now) (NotANumber field.entry.place) }
-{
-    match wire::price(field.bytes) {
-        Some(price) => Ok(price),
-        None => Err(LineFault::NotANumber { place: field.place }),
-    }
-}
-
-fn last_day(field: Field) -> Result<Option<u64>, LineFault>
-    ensures last_day_or_fault_at_its_place { result ≡ held_at (last_day_of field.entry.bytes.now) (NotANumber field.entry.place) }
-{
-    match wire::last_day(field.bytes) {
-        Some(day) => Ok(day),
-        None => Err(LineFault::NotANumber { place: field.place }),
-    }
+    T::read(field.bytes).ok_or(LineFault::NotANumber { place: field.place })
 }
 
 fn market(field: Field) -> Result<MarketName, LineFault>
-    ensures market_or_fault_at_its_place { result ≡ held_at (market_of field.entry.bytes.now) (UnknownLetter field.entry.place) }
+    ensures market_or_fault_at_its_place { result ≡ ok_or (market_of field.entry.bytes.now) (UnknownLetter field.entry.place) }
 {
-    match field.bytes {
-        [b'X'] => Ok(MarketName::Xbid),
-        [b'M'] => Ok(MarketName::Mpeg),
-        [b'P'] => Ok(MarketName::Pce),
-        _ => Err(LineFault::UnknownLetter { place: field.place }),
-    }
+    MarketName::read(field.bytes).ok_or(LineFault::UnknownLetter { place: field.place })
 }
 
 /// A market that is named wrongly comes before a wrong count of fields.
 fn check_market(rest: &[u8]) -> Result<(), LineFault>
     ensures fault_at_an_unknown_market { result ≡ fault_if (unknown_market (fields rest.now)) (UnknownLetter 2) }
 {
-    match Reader::new(rest).next_field() {
-        Some(field) => {
-            market(field)?;
-            Ok(())
-        }
-        None => Ok(()),
+    if let Some(field) = Reader::new(rest).next() {
+        market(field)?;
     }
+    Ok(())
 }
 
 fn read_open(rest: &[u8]) -> Result<Command, LineFault>
     ensures fault_due_or_command { Takes opens rest.now result }
 {
     check_market(rest)?;
-    let (letter, margin, first_day, reference) = four(rest)?;
+    let mut fields = Reader::new(rest);
+    let letter = next(&mut fields)?;
+    let margin = next(&mut fields)?;
+    let first_day = next(&mut fields)?;
+    let reference = next(&mut fields)?;
+    end(&mut fields)?;
     let market = market(letter)?;
     let terms = Terms {
-        margin: number(margin)?,
-        first_day: number(first_day)?,
-        reference: price(reference)?,
+        margin: held(margin)?,
+        first_day: held(first_day)?,
+        reference: held(reference)?,
     };
     Ok(Command::Open { market, terms })
 }
@@ -143,42 +75,56 @@ fn read_open(rest: &[u8]) -> Result<Command, LineFault>
 fn read_admit(rest: &[u8]) -> Result<Command, LineFault>
     ensures fault_due_or_command { Takes admits rest.now result }
 {
-    let (participant, vat, share) = three(rest)?;
+    let mut fields = Reader::new(rest);
+    let participant = next(&mut fields)?;
+    let vat = next(&mut fields)?;
+    let share = next(&mut fields)?;
+    end(&mut fields)?;
     Ok(Command::Perform(Call::Admit {
-        participant: number(participant)?,
-        vat: number(vat)?,
-        share: number(share)?,
+        participant: held(participant)?,
+        vat: held(vat)?,
+        share: held(share)?,
     }))
 }
 
 fn read_post(rest: &[u8]) -> Result<Command, LineFault>
     ensures fault_due_or_command { Takes posts rest.now result }
 {
-    let (participant, guarantee, day, cents) = four(rest)?;
+    let mut fields = Reader::new(rest);
+    let participant = next(&mut fields)?;
+    let guarantee = next(&mut fields)?;
+    let day = next(&mut fields)?;
+    let cents = next(&mut fields)?;
+    end(&mut fields)?;
     Ok(Command::Perform(Call::Post {
-        participant: number(participant)?,
-        guarantee: number(guarantee)?,
-        last_day: last_day(day)?,
-        cents: number(cents)?,
+        participant: held(participant)?,
+        guarantee: held(guarantee)?,
+        last_day: held(day)?,
+        cents: held(cents)?,
     }))
 }
 
 fn read_return(rest: &[u8]) -> Result<Command, LineFault>
     ensures fault_due_or_command { Takes returns rest.now result }
 {
-    let (participant, guarantee) = two(rest)?;
+    let mut fields = Reader::new(rest);
+    let participant = next(&mut fields)?;
+    let guarantee = next(&mut fields)?;
+    end(&mut fields)?;
     Ok(Command::Perform(Call::Return {
-        participant: number(participant)?,
-        guarantee: number(guarantee)?,
+        participant: held(participant)?,
+        guarantee: held(guarantee)?,
     }))
 }
 
 fn read_query(rest: &[u8]) -> Result<Command, LineFault>
     ensures fault_due_or_command { Takes queries rest.now result }
 {
-    let participant = one(rest)?;
+    let mut fields = Reader::new(rest);
+    let participant = next(&mut fields)?;
+    end(&mut fields)?;
     Ok(Command::Perform(Call::Query {
-        participant: number(participant)?,
+        participant: held(participant)?,
     }))
 }
 

@@ -40,7 +40,7 @@ impl Desk {
         if self.book.is_some() {
             return Err(LineFault::AlreadyOpen);
         }
-        self.book = Some(Book::open(heap, market.rule(), Weeks, terms)?);
+        self.book = Some(Book::open(heap, market.into(), Weeks, terms)?);
         Ok(Answer {
             status: Status::New,
             exposure: 0,
@@ -102,10 +102,9 @@ impl Desk {
         }
         let reply = self.handle(heap, line);
         let length = write(buffer, number, reply);
-        match reply {
-            Ok(_) => Ok(length),
-            Err(fault) => Err(Refused { fault, length }),
-        }
+        reply
+            .map(|_| length)
+            .map_err(|fault| Refused { fault, length })
     }
 }
 

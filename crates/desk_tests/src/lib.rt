@@ -16,7 +16,7 @@ mod tests {
             first_day: 5,
             reference: 0,
         };
-        match Book::open(rt.alloc(), MarketName::Xbid.rule(), Weeks, terms) {
+        match Book::open(rt.alloc(), MarketName::Xbid.into(), Weeks, terms) {
             Ok(book) => Ok(book),
             Err(OpenFault::Refused(_)) => Err(Fail::new("refused")),
             Err(OpenFault::OutOfMemory) => Err(Fail::new("no memory")),

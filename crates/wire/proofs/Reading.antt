@@ -9,7 +9,7 @@ use Rattle.std.proofs.lemmas.List.{at_drop_more, take_rest}
 use Rattle.std.proofs.lemmas.Str.Parse.{IsNumeralModel, numerals_by_fold, tells_all_ascii_digits, digits_value_short}
 use Rattle.std.proofs.lemmas.Bool.{cases_Bool, cases_eq}
 use Rattle.std.proofs.lemmas.Bool.Decides.{nat_tests}
-use Rattle.wire.specs.Numbers.{Number, Price, hyphen, value_after, in_form, number_of, negative, price_of, last_day_of, letter_of, ReadsNumbers, ReadsPrices, ReadsLastDays, ReadsLetters}
+use Rattle.wire.specs.Numbers.{Number, Price, hyphen, value_after, in_form, number_of, negative, price_of, last_day_of, letter_of, LastDay, Letter, ReadsExactly}
 
 -- one digit more, for the loop over a field
 pub value_more : (v : ℕ) (xs : List ℕ) (i : ℕ) → i < length xs → value_after v (drop i xs) ≡ value_after (v * 10 + (get_or xs i 0 - 48)) (drop (i + 1) xs)
@@ -61,7 +61,7 @@ number_formed bs f =
     let b : value_after 0 bs < 10 ^ 12 = digits_value_short own bs 12 f.digits f.short in
     (b, decimal-digits_value own bs f.digits f.some f.lead (omega arith))
 
-pub reads_numbers : (bs : List ℕ) → ReadsNumbers bs
+pub reads_numbers : (bs : List ℕ) → ReadsExactly number_of Number bs
 unfolding number_of
 reads_numbers bs n = (
   λ e. ⊎_elim
@@ -88,7 +88,7 @@ only [] h = absurd (omega arith)
 only (b ∷ []) h = refl
 only (b ∷ c ∷ bs) h = absurd (omega arith)
 
-pub reads_letters : (bs : List ℕ) → ReadsLetters bs
+pub reads_letters : (bs : List ℕ) → ReadsExactly letter_of Letter bs
 unfolding letter_of
 reads_letters bs b = (
   λ e. let l : length bs ≡ 1 = grind (arith, nat_tests) in let g : get_or bs 0 0 ≡ b = grind (arith, nat_tests) in only bs l ∙ ap (λ x. x ∷ []) g,
@@ -114,23 +114,23 @@ some_day : (o : Option ℕ) (n : ℕ) → option_map Some o ≡ Some (Some n) �
 some_day None n e = grind arith
 some_day (Some m) n e = grind arith
 
-pub reads_last_days : (bs : List ℕ) → ReadsLastDays bs
+pub reads_last_days : (bs : List ℕ) → ReadsExactly last_day_of LastDay bs
 unfolding last_day_of
-reads_last_days bs = (
+reads_last_days bs None = (
   λ e. ⊎_elim
       (λ t. let l : length bs ≡ 1 = grind (arith, nat_tests) in let g : get_or bs 0 0 ≡ hyphen = grind (arith, nat_tests) in only bs l ∙ ap (λ x. x ∷ []) g)
       (λ t. absurd (no_day (number_of bs) (rw t at e)))
       (cases_Bool (eqb (length bs) 1 && eqb (get_or bs 0 0) hyphen)),
-  (λ e. let l : length bs ≡ 1 = ap length e in let g : get_or bs 0 0 ≡ hyphen = ap (λ xs. get_or xs 0 0) e in grind (arith, nat_tests)),
-  λ n. (
-    (λ e. ⊎_elim
-        (λ t. absurd (no_none n (rw t at e)))
-        (λ t. (reads_numbers bs n).0 (some_day (number_of bs) n (rw t at e)))
-        (cases_Bool (eqb (length bs) 1 && eqb (get_or bs 0 0) hyphen))),
-    λ p. let d = first_digit bs n p in
-        let t : (eqb (length bs) 1 && eqb (get_or bs 0 0) hyphen) ≡ false = grind (arith, nat_tests) in
-        rw t (ap (option_map Some) ((reads_numbers bs n).1 p)),
-  ),
+  λ e. let l : length bs ≡ 1 = ap length e in let g : get_or bs 0 0 ≡ hyphen = ap (λ xs. get_or xs 0 0) e in grind (arith, nat_tests),
+)
+reads_last_days bs (Some n) = (
+  λ e. ⊎_elim
+      (λ t. absurd (no_none n (rw t at e)))
+      (λ t. (reads_numbers bs n).0 (some_day (number_of bs) n (rw t at e)))
+      (cases_Bool (eqb (length bs) 1 && eqb (get_or bs 0 0) hyphen)),
+  λ p. let d = first_digit bs n p in
+      let t : (eqb (length bs) 1 && eqb (get_or bs 0 0) hyphen) ≡ false = grind (arith, nat_tests) in
+      rw t (ap (option_map Some) ((reads_numbers bs n).1 p)),
 )
 
 -- what a price below 0, or one not below 0, tells of the number in it
@@ -178,7 +178,7 @@ pub no_first : (bs : List ℕ) → length bs < 1 → get_or bs 0 0 ≡ hyphen �
 no_first [] h e = omega arith
 no_first (b ∷ bs) h e = omega arith
 
-pub reads_prices : (bs : List ℕ) → ReadsPrices bs
+pub reads_prices : (bs : List ℕ) → ReadsExactly price_of Price bs
 unfolding price_of
 reads_prices bs z = (
   λ e. ⊎_elim

@@ -1,28 +1,36 @@
 -- Lemmas on how a text falls into fields.
-use Rattle.std.proofs.Common.{◌≡◌, ℕ, suc, ◌+◌, ◌-◌, ◌<◌, ◌≤◌, false, cond, eqb, List, [], ◌∷◌, ◌++◌, length, get_or, take, drop, sym, refl, ap, ◌∙◌, ⊎_elim, append-nil, arith}
-use Rattle.std.specs.List.{flat_map, AllByRecursion}
-use Rattle.std.proofs.lemmas.List.{at_drop_more, take_rest}
+use Rattle.std.proofs.Common.{◌≡◌, ℕ, suc, ◌+◌, ◌-◌, ◌<◌, ◌≤◌, ◌==◌, not, ltb, false, eqb, List, [], ◌∷◌, ◌++◌, length, take, drop, Some, None, Option, sym, refl, ap, ◌∙◌, ⊎_elim, append-nil, arith}
+use Rattle.std.specs.List.{flat_map, position, position_or_len, count_by, AllByRecursion}
+use Rattle.std.specs.Option.{unwrap_or}
+use Rattle.std.proofs.lemmas.List.{take_rest}
+use Rattle.std.proofs.lemmas.List.Recursion.{is_count_by, is_position_or_len}
+use Rattle.std.proofs.lemmas.List.Sums.{prefix_len-le-length}
 use Rattle.std.proofs.lemmas.Bool.{cases_Bool, eqb-true, eqb-false, ne_eqb}
+use Rattle.std.proofs.lemmas.Bool.Decides.{nat_tests}
 use Rattle.wire.specs.Fields.{comma, before, fields, Plain, OneSplit}
 
--- one byte more, for a loop over the text
-pub before_more : (xs : List ℕ) (i : ℕ) → i < length xs → length (before (drop i xs)) ≡ cond (eqb (get_or xs i 0) comma) 0 (suc (length (before (drop (i + 1) xs))))
+-- the first comma stands after the bytes before it
+after_before : (xs : List ℕ) → length (before xs) ≡ position_or_len (λ b. b == comma) xs
 unfolding before
-before_more xs i h =
-    at_drop_more (λ ys. length (before ys)) xs i 0 h ∙ ⊎_elim (λ t. rw t) (λ f. rw f) (cases_Bool (eqb (get_or xs i 0) comma))
+after_before = is_position_or_len (λ xs. length (before xs)) (λ b. b == comma) refl (λ x xs. ⊎_elim (λ t. rw t (omega arith)) (λ f. rw f (omega arith)) (cases_Bool (eqb x comma)))
 
-pub fields_more : (xs : List ℕ) (i : ℕ) → i < length xs → length (fields (drop i xs)) ≡ cond (eqb (get_or xs i 0) comma) (suc (length (fields (drop (i + 1) xs)))) (length (fields (drop (i + 1) xs)))
+-- what the place of the first comma tells, and that there is none
+pub comma_found : (xs : List ℕ) (i : ℕ) → position (λ b. b == comma) xs ≡ Some i → (i ≡ length (before xs)) × (i < length xs)
+comma_found xs i e = let n = after_before xs in grind (arith, nat_tests)
+
+pub comma_missing : (xs : List ℕ) → position (λ b. b == comma) xs ≡ None → length xs ≤ length (before xs)
+comma_missing xs e = let n = after_before xs in grind (arith, nat_tests)
+
+-- a field goes up to the next comma or to the end
+pub field_end : (xs : List ℕ) → unwrap_or (position (λ b. b == comma) xs) (length xs) ≡ length (before xs)
+field_end xs =
+    let n = after_before xs in let l = prefix_len-le-length (λ b. not (b == comma)) xs in
+    ⊎_elim (λ t. rw t (omega arith)) (λ f. rw f (grind (arith, nat_tests))) (cases_Bool (ltb (position_or_len (λ b. b == comma) xs) (length xs)))
+
+-- each comma begins a field
+pub count_commas : (xs : List ℕ) → length (fields xs) ≡ count_by (λ b. b == comma) xs
 unfolding fields
-fields_more xs i h =
-    at_drop_more (λ ys. length (fields ys)) xs i 0 h ∙ ⊎_elim (λ t. rw t) (λ f. rw f) (cases_Bool (eqb (get_or xs i 0) comma))
-
-pub before_none : before [] ≡ []
-unfolding before
-before_none = refl
-
-pub fields_none : fields [] ≡ []
-unfolding fields
-fields_none = refl
+count_commas = is_count_by (λ xs. length (fields xs)) (λ b. b == comma) refl (λ x xs. ⊎_elim (λ t. rw t (omega arith)) (λ f. rw f (omega arith)) (cases_Bool (eqb x comma)))
 
 -- the bytes before the first comma are the front of the text
 pub take_before : (xs : List ℕ) → take (length (before xs)) xs ≡ before xs
@@ -110,11 +118,12 @@ one_split text = (
 )
 
 -- the part of the text after the comma, up to the next, is the first field, and the other fields begin where it ends
-pub next_handed : (xs after : List ℕ) (n e : ℕ) → after ≡ drop (n + 1) xs → n ≡ length (before xs) → n < length xs → e ≡ length (before after) → fields xs ≡ take (e - 0) after ∷ fields (take (length after - e) (drop e after))
-next_handed xs after n e a b l d =
+pub next_handed : (xs after : List ℕ) (n e : ℕ) → after ≡ drop (n + 1) xs → position (λ b. b == comma) xs ≡ Some n → (p : Option ℕ) → p ≡ position (λ b. b == comma) after → e ≡ unwrap_or p (length after) → fields xs ≡ take e after ∷ fields (take (length after - e) (drop e after))
+next_handed xs after n e a found p next end =
+    let f = comma_found xs n found in
     let m : suc (length (before xs)) ≡ n + 1 = omega arith in
-    let k : e - 0 ≡ length (before after) = omega arith in
     let s : drop (suc (length (before xs))) xs ≡ after = ap (λ i. drop i xs) m ∙ sym a in
-    let h : take (e - 0) after ≡ before after = ap (λ i. take i after) k ∙ take_before after in
+    let d : e ≡ length (before after) = end ∙ ap (λ o. unwrap_or o (length after)) next ∙ field_end after in
+    let h : take e after ≡ before after = ap (λ i. take i after) d ∙ take_before after in
     let t : fields (take (length after - e) (drop e after)) ≡ fields after = ap fields (take_rest after e) ∙ ap (λ i. fields (drop i after)) d ∙ drop_before after in
-    at_comma xs (omega arith) ∙ ap (λ ys. before ys ∷ fields ys) s ∙ ap (λ ys. ys ∷ fields after) (sym h) ∙ ap (λ gs. take (e - 0) after ∷ gs) (sym t)
+    at_comma xs (omega arith) ∙ ap (λ ys. before ys ∷ fields ys) s ∙ ap (λ ys. ys ∷ fields after) (sym h) ∙ ap (λ gs. take e after ∷ gs) (sym t)

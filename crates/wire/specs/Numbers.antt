@@ -46,23 +46,16 @@ last_day_of bs = cond (length bs == 1 && slice_index bs 0 == hyphen) (Some None)
 unfoldable pub letter_of : List ℕ → Option ℕ
 letter_of bs = cond (length bs == 1) (Some (slice_index bs 0)) None
 
--- a field holds a number exactly where it is that number's writing
-abbrev pub ReadsNumbers : List ℕ → Type 0
-ReadsNumbers bytes =
-    (n : ℕ) → (number_of bytes ≡ Some n → Number bytes n) × (Number bytes n → number_of bytes ≡ Some n)
+-- a last day in the form: a hyphen where there is none
+abbrev pub LastDay : List ℕ → Option ℕ → Type 0
+LastDay bytes None = bytes ≡ hyphen ∷ []
+LastDay bytes (Some day) = Number bytes day
 
--- a field holds a price exactly where it is that price's writing
-abbrev pub ReadsPrices : List ℕ → Type 0
-ReadsPrices bytes =
-    (z : ℤ) → (price_of bytes ≡ Some z → Price bytes z) × (Price bytes z → price_of bytes ≡ Some z)
+-- a letter in the form: that letter alone
+abbrev pub Letter : List ℕ → ℕ → Type 0
+Letter bytes letter = bytes ≡ letter ∷ []
 
--- a field holds no last day exactly where it is a hyphen, and a last day exactly where it is that day's writing
-abbrev pub ReadsLastDays : List ℕ → Type 0
-ReadsLastDays bytes =
-    (last_day_of bytes ≡ Some None → bytes ≡ hyphen ∷ []) × (bytes ≡ hyphen ∷ [] → last_day_of bytes ≡ Some None)
-    × ((n : ℕ) → (last_day_of bytes ≡ Some (Some n) → Number bytes n) × (Number bytes n → last_day_of bytes ≡ Some (Some n)))
-
--- a field holds a letter exactly where it is that letter alone
-abbrev pub ReadsLetters : List ℕ → Type 0
-ReadsLetters bytes =
-    (b : ℕ) → (letter_of bytes ≡ Some b → bytes ≡ b ∷ []) × (bytes ≡ b ∷ [] → letter_of bytes ≡ Some b)
+-- a field holds a value exactly where it is that value's writing
+abbrev pub ReadsExactly : {X : Type 0} → (List ℕ → Option X) → (List ℕ → X → Type 0) → List ℕ → Type 0
+ReadsExactly {X} value_of IsWriting bytes =
+    (x : X) → (value_of bytes ≡ Some x → IsWriting bytes x) × (IsWriting bytes x → value_of bytes ≡ Some x)

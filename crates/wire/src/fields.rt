@@ -1,6 +1,7 @@
 //! The fields of a command line: parts of the lent text, never copies.
-ghost use Rattle.std.specs.Prelude.{◌≡◌, ◌≤◌, length};
-ghost use Rattle.wire.specs.Fields.{before, fields, remaining, place, OneSplit, HandsOut};
+ghost use Rattle.std.specs.Prelude.{◌≡◌, ◌==◌, length, position};
+ghost use Rattle.std.specs.Iterator.{item_count};
+ghost use Rattle.wire.specs.Fields.{comma, fields, remaining, place, OneSplit, HandsOut};
 
 /// A field with its place in the line, where the command's letter has place 1. Places past 255 count as 255.
 #[derive(Clone, Copy)]
@@ -17,30 +18,18 @@ pub struct Reader<'a> {
     place: u8,
 }
 
-/// How many bytes stand before the first comma.
-fn before_comma(text: &[u8]) -> usize
-    ensures counts_the_bytes_before { result ≡ length (before text.now) }
-    ensures lies_within { result ≤ length text.now }
+/// Where the first comma stands.
+fn comma_at(text: &[u8]) -> Option<usize>
+    ensures first_comma { result ≡ position (λ byte. byte == comma) text.now }
 {
-    for (i, byte) in text.iter().enumerate() {
-        if *byte == b',' {
-            return i;
-        }
-    }
-    text.len()
+    text.iter().position(|byte| *byte == b',')
 }
 
 /// How many fields the text after a command's letter has.
 pub fn count_fields(text: &[u8]) -> usize
     ensures counts_the_fields { result ≡ length (fields text.now) }
 {
-    let mut count = 0;
-    for byte in text {
-        if *byte == b',' {
-            count += 1;
-        }
-    }
-    count
+    text.iter().filter(|byte| **byte == b',').count()
 }
 
 impl<'a> Reader<'a> {
@@ -55,24 +44,26 @@ impl<'a> Reader<'a> {
             place: 1,
         }
     }
+}
+
+impl<'a> Iterator for Reader<'a> {
+    type Item = Field<'a>;
+
+    ghost next_gives = { HandsOut };
+
+    ghost remaining = { item_count remaining };
 
     /// The next field, or `None` where none remains.
-    pub fn next_field(&mut self) -> Option<Field<'a>>
-        ensures hands_out_the_next { HandsOut self.old result self.new }
-    {
+    fn next(&mut self) -> Option<Field<'a>> {
         let text = self.rest;
-        let comma = before_comma(text);
-        if comma >= text.len() {
-            return None;
-        }
-        let after = &text[comma + 1..text.len()];
-        let end = before_comma(after);
-        let place = self.place.saturating_add(1);
-        self.rest = &after[end..after.len()];
-        self.place = place;
+        let comma = comma_at(text)?;
+        let after = &text[comma + 1..];
+        let end = comma_at(after).unwrap_or(after.len());
+        self.rest = &after[end..];
+        self.place = self.place.saturating_add(1);
         Some(Field {
-            place,
-            bytes: &after[0..end],
+            place: self.place,
+            bytes: &after[..end],
         })
     }
 }

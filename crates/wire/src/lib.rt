@@ -8,7 +8,7 @@ mod stream;
 
 pub use fields::{Field, Reader, count_fields};
 pub use lines::{ANSWER_BYTES, NUMBER_BYTES, Reply, write_line, write_number};
-pub use numbers::{last_day, letter, number, price};
+pub use numbers::Form;
 pub use stream::{LineStart, first_line};
 
 #[cfg(test)]
@@ -20,13 +20,13 @@ mod tests {
     #[test]
     fn fields_in_order(rt: HostRuntime) -> Result<(), Fail> {
         let mut reader = Reader::new(b",a,,b");
-        let first = reader.next_field().ok_or("no first field")?;
+        let first = reader.next().ok_or("no first field")?;
         assert!(rt; first.place == 2 && first.bytes == b"a".as_slice());
-        let second = reader.next_field().ok_or("no second field")?;
+        let second = reader.next().ok_or("no second field")?;
         assert!(rt; second.place == 3 && second.bytes.is_empty());
-        let third = reader.next_field().ok_or("no third field")?;
+        let third = reader.next().ok_or("no third field")?;
         assert!(rt; third.place == 4 && third.bytes == b"b".as_slice());
-        assert!(rt; reader.next_field().is_none());
+        assert!(rt; reader.next().is_none());
         Ok(())
     }
 
@@ -40,31 +40,31 @@ mod tests {
 
     #[test]
     fn numbers_in_the_form(rt: HostRuntime) {
-        assert_eq!(rt; number(b"0"), Some(0));
-        assert_eq!(rt; number(b"999999999999"), Some(999_999_999_999));
-        assert_eq!(rt; number(b"1000000000000"), None);
-        assert_eq!(rt; number(b""), None);
-        assert_eq!(rt; number(b"00"), None);
-        assert_eq!(rt; number(b"-5"), None);
+        assert_eq!(rt; u64::read(b"0"), Some(0));
+        assert_eq!(rt; u64::read(b"999999999999"), Some(999_999_999_999));
+        assert_eq!(rt; u64::read(b"1000000000000"), None);
+        assert_eq!(rt; u64::read(b""), None);
+        assert_eq!(rt; u64::read(b"00"), None);
+        assert_eq!(rt; u64::read(b"-5"), None);
     }
 
     #[test]
     fn prices_in_the_form(rt: HostRuntime) {
-        assert_eq!(rt; price(b"-5"), Some(-5));
-        assert_eq!(rt; price(b"-999999999999"), Some(-999_999_999_999));
-        assert_eq!(rt; price(b"400000"), Some(400_000));
-        assert_eq!(rt; price(b"-0"), None);
-        assert_eq!(rt; price(b"-"), None);
+        assert_eq!(rt; i64::read(b"-5"), Some(-5));
+        assert_eq!(rt; i64::read(b"-999999999999"), Some(-999_999_999_999));
+        assert_eq!(rt; i64::read(b"400000"), Some(400_000));
+        assert_eq!(rt; i64::read(b"-0"), None);
+        assert_eq!(rt; i64::read(b"-"), None);
     }
 
     #[test]
     fn last_days_and_letters(rt: HostRuntime) {
-        assert_eq!(rt; last_day(b"-"), Some(None));
-        assert_eq!(rt; last_day(b"40000"), Some(Some(40_000)));
-        assert_eq!(rt; last_day(b"-1"), None);
-        assert_eq!(rt; letter(b"B"), Some(b'B'));
-        assert_eq!(rt; letter(b""), None);
-        assert_eq!(rt; letter(b"BS"), None);
+        assert_eq!(rt; Option::<u64>::read(b"-"), Some(None));
+        assert_eq!(rt; Option::<u64>::read(b"40000"), Some(Some(40_000)));
+        assert_eq!(rt; Option::<u64>::read(b"-1"), None);
+        assert_eq!(rt; u8::read(b"B"), Some(b'B'));
+        assert_eq!(rt; u8::read(b""), None);
+        assert_eq!(rt; u8::read(b"BS"), None);
     }
 
     #[test]

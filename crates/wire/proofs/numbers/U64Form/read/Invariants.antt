@@ -1,7 +1,7 @@
 use Rattle.std.proofs.Common.{◌≡◌, ◌^◌, ◌<◌, drop}
 use Rattle.std.specs.Str.{all_ascii_digits}
 use Rattle.wire.specs.Numbers.{value_after}
-use Rattle.wire.proofs.numbers.number.Given as goal
+use Rattle.wire.proofs.numbers.U64Form.read.Given as goal
 
 abbrev pub invariant-loop-byte : goal.invariant-loop-byte
 invariant-loop-byte l =
