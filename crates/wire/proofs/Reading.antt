@@ -1,27 +1,16 @@
 -- Lemmas on the forms of numbers: a field holds a number exactly where it is the number's writing.
-use Rattle.std.proofs.Common.{◌≡◌, ℕ, zero, suc, ◌+◌, ◌-◌, ◌*◌, ◌^◌, ◌<◌, ◌≤◌, true, false, ◌&&◌, eqb, List, [], ◌∷◌, length, get_or, take, drop, ℤ, pos, negsuc, neg_ℤ, Some, None, decimal, Option, sym, refl, ap, ◌∙◌, subst, ⊎_elim, pow-suc, add-one, arith, rules}
+use Rattle.std.proofs.Common.{◌≡◌, ℕ, zero, suc, ◌-◌, ◌^◌, ◌<◌, ◌≤◌, true, false, eqb, List, [], ◌∷◌, length, get_or, take, drop, ℤ, pos, negsuc, neg_ℤ, Some, None, decimal, Option, sym, refl, ap, ◌∙◌, subst, ⊎_elim, arith, rules}
 use native.Mathlib.Nat.{pow-le-pow_right}
 use Rattle.std.specs.Option.{option_map}
-use Rattle.std.specs.Char.{is_ascii_digit}
 use Rattle.std.specs.Str.{all_ascii_digits}
 use Rattle.std.proofs.lemmas.Fmt.{decimal-digits_value, digits_value-decimal, digits_decimal, decimal_nonempty, length-decimal-le, first_decimal, decimal_digit}
-use Rattle.std.proofs.lemmas.List.{at_drop_more, take_rest}
+use Rattle.std.proofs.lemmas.List.{take_rest}
 use Rattle.std.proofs.lemmas.Str.Parse.{IsNumeralModel, numerals_by_fold, tells_all_ascii_digits, digits_value_short}
 use Rattle.std.proofs.lemmas.Bool.{cases_Bool, cases_eq}
 use Rattle.std.proofs.lemmas.Bool.Decides.{nat_tests}
 use Rattle.wire.specs.Numbers.{Number, Price, hyphen, value_after, in_form, number_of, negative, price_of, last_day_of, letter_of, LastDay, Letter, ReadsExactly}
 
--- one digit more, for the loop over a field
-pub value_more : (v : ℕ) (xs : List ℕ) (i : ℕ) → i < length xs → value_after v (drop i xs) ≡ value_after (v * 10 + (get_or xs i 0 - 48)) (drop (i + 1) xs)
-value_more v xs i h = at_drop_more (value_after v) xs i 0 h
-
-pub digits_more : (xs : List ℕ) (i : ℕ) → i < length xs → all_ascii_digits (drop i xs) ≡ (is_ascii_digit (get_or xs i 0) && all_ascii_digits (drop (i + 1) xs))
-digits_more xs i h = at_drop_more all_ascii_digits xs i 0 h
-
--- i digits are worth less than the i-th power of ten
-pub ten_more : (v d i : ℕ) → v < 10 ^ i → d < 10 → v * 10 + d < 10 ^ (i + 1)
-ten_more v d i h l = rw (add-one i, pow-suc 10 i) (omega arith)
-
+-- the worth of up to 12 digits
 pub ten_below : (v i : ℕ) → v < 10 ^ i → i ≤ 12 → v < 10 ^ 12
 ten_below v i h l = let b : 0 < 10 = omega arith in let p : 10 ^ i ≤ 10 ^ 12 = pow-le-pow_right b l in omega arith
 
@@ -73,15 +62,6 @@ reads_numbers bs n = (
       rw e (ap Some v),
 )
 
--- the two answers of the number form
-pub number_refused : (bs : List ℕ) → in_form bs ≡ false → None ≡ number_of bs
-unfolding number_of
-number_refused bs e = rw e
-
-pub number_read : (bs : List ℕ) (v : ℕ) → in_form bs ≡ true → v ≡ value_after 0 bs → Some v ≡ number_of bs
-unfolding number_of
-number_read bs v e d = rw e (ap Some d)
-
 -- a list of one
 only : (bs : List ℕ) → length bs ≡ 1 → bs ≡ get_or bs 0 0 ∷ []
 only [] h = absurd (omega arith)
@@ -90,10 +70,7 @@ only (b ∷ c ∷ bs) h = absurd (omega arith)
 
 pub reads_letters : (bs : List ℕ) → ReadsExactly letter_of Letter bs
 unfolding letter_of
-reads_letters bs b = (
-  λ e. let l : length bs ≡ 1 = grind (arith, nat_tests) in let g : get_or bs 0 0 ≡ b = grind (arith, nat_tests) in only bs l ∙ ap (λ x. x ∷ []) g,
-  λ e. let l : length bs ≡ 1 = ap length e in let g : get_or bs 0 0 ≡ b = ap (λ xs. get_or xs 0 0) e in grind (arith, nat_tests),
-)
+reads_letters bs b = (λ e. grind (arith, nat_tests, only bs), λ e. grind (arith, nat_tests))
 
 -- the first byte of a number is a digit
 first_digit : (bs : List ℕ) (n : ℕ) → Number bs n → (48 ≤ get_or bs 0 0) × (get_or bs 0 0 ≤ 57)
@@ -107,30 +84,16 @@ no_day : (o : Option ℕ) → option_map Some o ≡ Some None → ⊥
 no_day None e = grind arith
 no_day (Some n) e = grind arith
 
-no_none : (n : ℕ) → ◌≡◌ {A = Option (Option ℕ)} (Some None) (Some (Some n)) → ⊥
-no_none n e = grind arith
-
 some_day : (o : Option ℕ) (n : ℕ) → option_map Some o ≡ Some (Some n) → o ≡ Some n
 some_day None n e = grind arith
 some_day (Some m) n e = grind arith
 
 pub reads_last_days : (bs : List ℕ) → ReadsExactly last_day_of LastDay bs
 unfolding last_day_of
-reads_last_days bs None = (
-  λ e. ⊎_elim
-      (λ t. let l : length bs ≡ 1 = grind (arith, nat_tests) in let g : get_or bs 0 0 ≡ hyphen = grind (arith, nat_tests) in only bs l ∙ ap (λ x. x ∷ []) g)
-      (λ t. absurd (no_day (number_of bs) (rw t at e)))
-      (cases_Bool (eqb (length bs) 1 && eqb (get_or bs 0 0) hyphen)),
-  λ e. let l : length bs ≡ 1 = ap length e in let g : get_or bs 0 0 ≡ hyphen = ap (λ xs. get_or xs 0 0) e in grind (arith, nat_tests),
-)
+reads_last_days bs None = (λ e. grind (arith, nat_tests, only bs, no_day (number_of bs)), λ e. grind (arith, nat_tests))
 reads_last_days bs (Some n) = (
-  λ e. ⊎_elim
-      (λ t. absurd (no_none n (rw t at e)))
-      (λ t. (reads_numbers bs n).0 (some_day (number_of bs) n (rw t at e)))
-      (cases_Bool (eqb (length bs) 1 && eqb (get_or bs 0 0) hyphen)),
-  λ p. let d = first_digit bs n p in
-      let t : (eqb (length bs) 1 && eqb (get_or bs 0 0) hyphen) ≡ false = grind (arith, nat_tests) in
-      rw t (ap (option_map Some) ((reads_numbers bs n).1 p)),
+  λ e. (reads_numbers bs n).0 (grind (arith, nat_tests, some_day (number_of bs) n)),
+  λ p. let d = first_digit bs n p in let r = (reads_numbers bs n).1 p in grind (arith, nat_tests),
 )
 
 -- what a price below 0, or one not below 0, tells of the number in it
@@ -151,27 +114,23 @@ begins (b ∷ bs) k e h = ap (λ x. x ∷ bs) e
 -- the two ways of the price form
 pub price_minus : (bs : List ℕ) (q : Option ℕ) → get_or bs 0 0 ≡ hyphen → q ≡ number_of (take (length bs - 1) (drop 1 bs)) → negative q ≡ price_of bs
 unfolding price_of
-price_minus bs q h e =
-    let t : eqb (get_or bs 0 0) hyphen ≡ true = grind (arith, nat_tests) in rw t (ap negative (e ∙ ap number_of (take_rest bs 1)))
+price_minus bs q h e = grind (arith, nat_tests, take_rest bs 1)
 
 pub price_plain : (bs : List ℕ) (q : Option ℕ) → (get_or bs 0 0 ≡ hyphen → ⊥) → q ≡ number_of bs → option_map pos q ≡ price_of bs
 unfolding price_of
-price_plain bs q h e =
-    let t : eqb (get_or bs 0 0) hyphen ≡ false = grind (arith, nat_tests) in rw t (ap (option_map pos) e)
+price_plain bs q h e = grind (arith, nat_tests)
 
 written_price : (bs : List ℕ) (z : ℤ) → Price bs z → price_of bs ≡ Some z
-written_price bs (pos n) p =
-    let d = first_digit bs n p in
-    sym (price_plain bs (number_of bs) (λ e. omega arith) refl) ∙ ap (option_map pos) ((reads_numbers bs n).1 p)
+unfolding price_of
+written_price bs (pos n) p = let d = first_digit bs n p in let r = (reads_numbers bs n).1 p in grind (arith, nat_tests)
 written_price bs (negsuc n) p =
     let b : get_or bs 0 0 ≡ hyphen = ap (λ xs. get_or xs 0 0) p.1 in
-    let d : number_of (drop 1 bs) ≡ Some (suc n) = (reads_numbers (drop 1 bs) (suc n)).1 (p.0, ap (drop 1) p.1) in
-    let t : eqb (suc n) 0 ≡ false = grind (arith, nat_tests) in
-    sym (price_minus bs (number_of (drop 1 bs)) b (ap number_of (sym (take_rest bs 1)))) ∙ ap negative d ∙ rw t
+    let r = (reads_numbers (drop 1 bs) (suc n)).1 (p.0, ap (drop 1) p.1) in
+    grind (arith, nat_tests)
 
 -- a number other than 0 behind a minus
 pub negative_is : (n : ℕ) (z : ℤ) → (n ≡ 0 → ⊥) → z ≡ neg_ℤ (pos n) → Some z ≡ negative (Some n)
-negative_is n z h e = let t : eqb n 0 ≡ false = grind (arith, nat_tests) in rw (t, e)
+negative_is n z h e = grind (arith, nat_tests)
 
 -- an empty text has no first byte
 pub no_first : (bs : List ℕ) → length bs < 1 → get_or bs 0 0 ≡ hyphen → ⊥

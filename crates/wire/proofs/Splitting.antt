@@ -1,97 +1,83 @@
 -- Lemmas on how a text falls into fields.
-use Rattle.std.proofs.Common.{◌≡◌, ℕ, suc, ◌+◌, ◌-◌, ◌<◌, ◌≤◌, ◌==◌, not, ltb, false, eqb, List, [], ◌∷◌, ◌++◌, length, take, drop, Some, None, Option, sym, refl, ap, ◌∙◌, ⊎_elim, append-nil, arith}
+use Rattle.std.proofs.Common.{◌≡◌, ℕ, suc, ◌+◌, ◌-◌, ◌<◌, ◌==◌, not, List, [], ◌∷◌, ◌++◌, length, take, drop, Some, None, Option, sym, refl, ap, ◌∙◌, append-nil, arith}
 use Rattle.std.specs.List.{flat_map, position, position_or_len, count_by, AllByRecursion}
 use Rattle.std.specs.Option.{unwrap_or}
 use Rattle.std.proofs.lemmas.List.{take_rest}
 use Rattle.std.proofs.lemmas.List.Recursion.{is_count_by, is_position_or_len}
 use Rattle.std.proofs.lemmas.List.Sums.{prefix_len-le-length}
-use Rattle.std.proofs.lemmas.Bool.{cases_Bool, eqb-true, eqb-false, ne_eqb}
 use Rattle.std.proofs.lemmas.Bool.Decides.{nat_tests}
 use Rattle.wire.specs.Fields.{comma, before, fields, Plain, OneSplit}
 
 -- the first comma stands after the bytes before it
 after_before : (xs : List ℕ) → length (before xs) ≡ position_or_len (λ b. b == comma) xs
 unfolding before
-after_before = is_position_or_len (λ xs. length (before xs)) (λ b. b == comma) refl (λ x xs. ⊎_elim (λ t. rw t (omega arith)) (λ f. rw f (omega arith)) (cases_Bool (eqb x comma)))
+after_before = is_position_or_len (λ xs. length (before xs)) (λ b. b == comma) refl (λ x xs. grind (arith, nat_tests))
 
--- what the place of the first comma tells, and that there is none
-pub comma_found : (xs : List ℕ) (i : ℕ) → position (λ b. b == comma) xs ≡ Some i → (i ≡ length (before xs)) × (i < length xs)
+-- what the place of the first comma tells
+comma_found : (xs : List ℕ) (i : ℕ) → position (λ b. b == comma) xs ≡ Some i → (i ≡ length (before xs)) × (i < length xs)
 comma_found xs i e = let n = after_before xs in grind (arith, nat_tests)
 
-pub comma_missing : (xs : List ℕ) → position (λ b. b == comma) xs ≡ None → length xs ≤ length (before xs)
-comma_missing xs e = let n = after_before xs in grind (arith, nat_tests)
-
 -- a field goes up to the next comma or to the end
-pub field_end : (xs : List ℕ) → unwrap_or (position (λ b. b == comma) xs) (length xs) ≡ length (before xs)
+field_end : (xs : List ℕ) → unwrap_or (position (λ b. b == comma) xs) (length xs) ≡ length (before xs)
 field_end xs =
     let n = after_before xs in let l = prefix_len-le-length (λ b. not (b == comma)) xs in
-    ⊎_elim (λ t. rw t (omega arith)) (λ f. rw f (grind (arith, nat_tests))) (cases_Bool (ltb (position_or_len (λ b. b == comma) xs) (length xs)))
+    grind (arith, nat_tests)
 
 -- each comma begins a field
 pub count_commas : (xs : List ℕ) → length (fields xs) ≡ count_by (λ b. b == comma) xs
 unfolding fields
-count_commas = is_count_by (λ xs. length (fields xs)) (λ b. b == comma) refl (λ x xs. ⊎_elim (λ t. rw t (omega arith)) (λ f. rw f (omega arith)) (cases_Bool (eqb x comma)))
+count_commas = is_count_by (λ xs. length (fields xs)) (λ b. b == comma) refl (λ x xs. grind (arith, nat_tests))
 
 -- the bytes before the first comma are the front of the text
-pub take_before : (xs : List ℕ) → take (length (before xs)) xs ≡ before xs
+take_before : (xs : List ℕ) → take (length (before xs)) xs ≡ before xs
 unfolding before
 take_before [] = refl
-take_before (x ∷ xs) =
-    ⊎_elim (λ t. rw t) (λ f. rw f (ap (λ ys. x ∷ ys) (take_before xs))) (cases_Bool (eqb x comma))
+take_before (x ∷ xs) = grind (arith, nat_tests, take_before xs)
 
 -- and no field begins in them
-pub drop_before : (xs : List ℕ) → fields (drop (length (before xs)) xs) ≡ fields xs
+drop_before : (xs : List ℕ) → fields (drop (length (before xs)) xs) ≡ fields xs
 unfolding before fields
 drop_before [] = refl
-drop_before (x ∷ xs) =
-    ⊎_elim (λ t. rw t (rw t)) (λ f. rw f (drop_before xs)) (cases_Bool (eqb x comma))
+drop_before (x ∷ xs) = grind (arith, nat_tests, drop_before xs)
 
 -- where there is no comma there is no field
-pub no_comma : (xs : List ℕ) → length xs ≤ length (before xs) → fields xs ≡ []
-unfolding before fields
+pub no_comma : (xs : List ℕ) → position (λ b. b == comma) xs ≡ None → fields xs ≡ []
+unfolding fields
 no_comma [] h = refl
-no_comma (x ∷ xs) h =
-    ⊎_elim (λ t. let k : length (before (x ∷ xs)) ≡ 0 = rw t in let w : ◌≡◌ {A = ℕ} 0 1 = omega arith in absurd (omega arith)) (λ f. let k : length (before (x ∷ xs)) ≡ suc (length (before xs)) = rw f in rw f (no_comma xs (omega arith))) (cases_Bool (eqb x comma))
+no_comma (x ∷ xs) h = grind (arith, nat_tests, no_comma xs)
 
 -- the first comma begins the first field
-pub at_comma : (xs : List ℕ) → length (before xs) < length xs → fields xs ≡ before (drop (suc (length (before xs))) xs) ∷ fields (drop (suc (length (before xs))) xs)
+at_comma : (xs : List ℕ) → length (before xs) < length xs → fields xs ≡ before (drop (suc (length (before xs))) xs) ∷ fields (drop (suc (length (before xs))) xs)
 unfolding before fields
 at_comma [] h = absurd (omega arith)
-at_comma (x ∷ xs) h =
-    ⊎_elim (λ t. rw t) (λ f. let k : length (before (x ∷ xs)) ≡ suc (length (before xs)) = rw f in rw f (at_comma xs (omega arith))) (cases_Bool (eqb x comma))
+at_comma (x ∷ xs) h = grind (arith, nat_tests, at_comma xs)
 
 -- the fields, each after a comma, make the text again
 whole_split : (xs : List ℕ) → before xs ++ flat_map (λ f. comma ∷ f) (fields xs) ≡ xs
 unfolding before fields
 whole_split [] = refl
-whole_split (x ∷ xs) =
-    ⊎_elim
-    (λ t. rw t (ap (λ ys. comma ∷ ys) (whole_split xs) ∙ ap (λ y. y ∷ xs) (sym (eqb-true x comma t))))
-    (λ f. rw f (ap (λ ys. x ∷ ys) (whole_split xs)))
-    (cases_Bool (eqb x comma))
+whole_split (x ∷ xs) = grind (arith, nat_tests, whole_split xs)
 
 plain_before : (xs : List ℕ) → Plain (before xs)
 unfolding before
 plain_before [] = tt
-plain_before (x ∷ xs) =
-    ⊎_elim (λ t. rw t tt) (λ f. rw f (eqb-false x comma f, plain_before xs)) (cases_Bool (eqb x comma))
+plain_before (x ∷ xs) = grind (arith, nat_tests, plain_before xs)
 
 plain_fields : (xs : List ℕ) → AllByRecursion Plain (fields xs)
 unfolding fields
 plain_fields [] = tt
-plain_fields (x ∷ xs) =
-    ⊎_elim (λ t. rw t (plain_before xs, plain_fields xs)) (λ f. rw f (plain_fields xs)) (cases_Bool (eqb x comma))
+plain_fields (x ∷ xs) = grind (arith, nat_tests, plain_before xs, plain_fields xs)
 
 -- a plain lead is what stands before the first comma, and the fields are those after it
 before_lead : (lead rest : List ℕ) → Plain lead → before (lead ++ rest) ≡ lead ++ before rest
 unfolding before
 before_lead [] rest h = refl
-before_lead (x ∷ xs) rest (n, h) = let f : eqb x comma ≡ false = ne_eqb x comma n in rw f (ap (λ ys. x ∷ ys) (before_lead xs rest h))
+before_lead (x ∷ xs) rest (n, h) = grind (arith, nat_tests, before_lead xs rest h)
 
 fields_lead : (lead rest : List ℕ) → Plain lead → fields (lead ++ rest) ≡ fields rest
 unfolding fields
 fields_lead [] rest h = refl
-fields_lead (x ∷ xs) rest (n, h) = let f : eqb x comma ≡ false = ne_eqb x comma n in rw f (fields_lead xs rest h)
+fields_lead (x ∷ xs) rest (n, h) = grind (arith, nat_tests, fields_lead xs rest h)
 
 before_joined : (fs : List (List ℕ)) → before (flat_map (λ f. comma ∷ f) fs) ≡ []
 unfolding before
@@ -105,8 +91,7 @@ fields_split : (fs : List (List ℕ)) → AllByRecursion Plain fs → fields (fl
 unfolding fields
 fields_split [] h = refl
 fields_split (f ∷ fs) (p, h) =
-    ap (λ ys. ys ∷ fields (f ++ flat_map (λ g. comma ∷ g) fs)) (before_split f fs p)
-    ∙ ap (λ gs. f ∷ gs) (fields_lead f (flat_map (λ g. comma ∷ g) fs) p ∙ fields_split fs h)
+    grind (arith, nat_tests, before_split f fs p, fields_lead f (flat_map (λ g. comma ∷ g) fs) p, fields_split fs h)
 
 pub one_split : (text : List ℕ) → OneSplit text
 one_split text = (

@@ -1,13 +1,13 @@
 use Rattle.std.proofs.Common.{◌+◌, length, sym, refl, ap, ◌∙◌, arith}
 use Rattle.std.proofs.lemmas.List.{take_rest}
 use Rattle.wire.specs.Fields.{remaining}
-use Rattle.wire.proofs.Splitting.{no_comma, comma_missing, next_handed}
+use Rattle.wire.proofs.Splitting.{no_comma, next_handed}
 use Rattle.wire.proofs.fields.ReaderIterator.next.Goals as goal
 
 pub returns-in_err-comma-clause-steps : goal.returns-in_err-comma-clause-steps
 unfolding remaining
 returns-in_err-comma-clause-steps c =
-    rw c.from_residual.ensures (no_comma c.args.self.now.rest.now (comma_missing c.args.self.now.rest.now (sym c.comma_at.ensures.first_comma ∙ c.in_err-comma.was)), refl)
+    rw c.from_residual.ensures (no_comma c.args.self.now.rest.now (sym c.comma_at.ensures.first_comma ∙ c.in_err-comma.was), refl)
 
 pub returns : goal.returns
 unfolding remaining
