@@ -1,6 +1,7 @@
 //! The desk: one book, and the line call that drives it.
 
 ghost use Rattle.std.specs.Prelude.{◌≡◌, ◌<◌, ◌≤◌, true, length, is_err, None};
+ghost use Rattle.std.specs.Option.{unwrap_or};
 ghost use Rattle.records.specs.Refusals.{due, Smallest};
 ghost use Rattle.wire.specs.Lines.{fronted};
 ghost use Rattle.desk.specs.Faults.{rank};
@@ -101,24 +102,23 @@ impl Desk {
             });
         }
         let reply = self.handle(heap, line);
-        let length = write(buffer, number, reply);
+        // Nothing is written for want of memory, which has no line.
+        let length = write(buffer, number, reply).unwrap_or(0);
         reply
             .map(|_| length)
             .map_err(|fault| Refused { fault, length })
     }
 }
 
-/// Writes the line of a reply at the front of a buffer with room for it, and says how long it is.
-fn write(buffer: &mut [u8], number: u32, reply: Result<Answer, LineFault>) -> usize
+/// Writes the line of a reply at the front of a buffer with room for it, and says how long it is; `None` for a reply
+/// that has no line.
+fn write(buffer: &mut [u8], number: u32, reply: Result<Answer, LineFault>) -> Option<usize>
     requires room { 96 ≤ length buffer.old }
-    ensures length_of_the_line { result ≡ length (text number reply) }
+    ensures length_of_the_line { unwrap_or result 0 ≡ length (text number reply) }
     ensures line_stands_at_the_front { buffer.new ≡ fronted (text number reply) buffer.old }
 {
     match reply {
-        Ok(answer) => write_line(buffer, number, &answer).unwrap_or(0),
-        Err(fault) => match fault.refusal() {
-            Some(refusal) => write_line(buffer, number, &refusal).unwrap_or(0),
-            None => 0,
-        },
+        Ok(answer) => write_line(buffer, number, &answer),
+        Err(fault) => write_line(buffer, number, &fault.refusal()?),
     }
 }
