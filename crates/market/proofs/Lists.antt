@@ -23,5 +23,6 @@ passes_below p (x ∷ xs) (suc i) l h =
     let e : p x ≡ true = h.0 0 0 (omega arith) (omega arith) in
     rw e (ap suc (passes_below p xs i (omega arith) ((λ k d m n. h.0 (suc k) d (omega arith) (omega arith)), λ k d m n. h.1 (suc k) d (omega arith) (omega arith))))
 
+-- what `partition_point` asks of days that rise
 pub parted : (days : List ℕ) (day : ℕ) → Rising days → IsPartitionedBy (λ last. ltb last day) days
 parted days day rising = IsPartitionedBy-ltb (λ x. x) days day (IsNonDecreasingBy-from_all_adjacent (λ x. x) days (λ k d h. grind (arith, get_or_default_zero days k d, get_or_default_zero days (k + 1) d, rising k)))

@@ -46,9 +46,11 @@ pub record Filling (Q : (Order → Bool) → Type 0) (start : Amounts) (all : Li
   pub limits : AllByRecursion (λ o. PriceRange o.limit) left
   pub leads : (chosen : Order → Bool) → Q chosen → at_limits chosen a left ≡ at_limits chosen start all
 
+-- past an order that is not of the cell
 pub kept : {Q : (Order → Bool) → Type 0} {start : Amounts} {all : List Order} {a : Amounts} {whole left : List Order} (b : Amounts) → Filling Q start all a whole → whole ≡ left → b ≡ a → Filling Q start all b left
 kept {Q} {start} {all} {left = left} b f h e = subst (λ x. Filling Q start all x left) (sym e) (subst (Filling Q start all _) h f)
 
+-- past an order of the cell, which is filled where t is true
 pub filled : {Q : (Order → Bool) → Type 0} {start : Amounts} {all : List Order} {a : Amounts} {whole : List Order} {o : Order} {left : List Order} (t : Bool) (limit : ℤ) (b : Amounts) → Filling Q start all a whole → whole ≡ o ∷ left →
     ((chosen : Order → Bool) → Q chosen → t ≡ chosen o) → limit ≡ o.limit → b ≡ cond t (traded o.side o.kwh (limit *ℤ pos o.kwh) a) a → Filling Q start all b left
 filled {Q} {start} {all} {a} {whole} {o} {left} t limit b whole-filling h q l e = record {

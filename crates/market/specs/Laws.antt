@@ -37,6 +37,7 @@ min_under z = (omega (arith, ints, clamps), omega (arith, ints, clamps))
 min_one : (a b : ℤ) → (int_min a b ≡ a) ⊎ (int_min a b ≡ b)
 min_one a b = by_lt_z b a (λ l. inr (omega (arith, ints, clamps))) (λ l. inl (omega (arith, ints, clamps)))
 
+-- what follows of each order and its fill follows along them
 Along-weaker : {R S : Order → Fill → Type 0} → ((o : Order) (fill : Fill) → R o fill → S o fill) → (orders : List Order) (outcome : Outcome) → Along R orders outcome → Along S orders outcome
 Along-weaker f [] [] h = tt
 Along-weaker f [] (fill ∷ outcome) h = absurd h
