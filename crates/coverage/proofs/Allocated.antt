@@ -2,12 +2,12 @@
 -- reach what the debts of that day or later exceed the credits by.
 use Rattle.std.proofs.Common.{◌≡◌, ℕ, zero, suc, ◌+◌, ◌-◌, ◌*◌, ◌<◌, ◌≤◌, Bool, true, false, ◌&&◌, eqb, leb, List, [], ◌∷◌, sym, ap, ◌∙◌, inl, inr, arith}
 use Rattle.std.specs.List.{AllByRecursion}
-use Rattle.std.proofs.lemmas.Bool.{eqb-true, cases_Bool, cases_lt, leb-true, le-leb, lt-leb}
+use Rattle.std.proofs.lemmas.Bool.{eqb-true, cases_Bool, cases_lt, leb-true, le-leb}
 use Rattle.std.proofs.ByRecursion.{All-weaker}
 use Rattle.std.proofs.lemmas.Bool.Decides.{nat_tests}
 use Rattle.coverage.specs.Allocation.{Row, total, amount_if, taken, given}
 use Rattle.coverage.specs.Capacity.{times}
-use Rattle.coverage.proofs.Totals.{total_le, total_le_each, total_same_each, total_none, total_add, total_swap, if_add, if_mono, if_le, if_positive, if_and_le, if_and_true, if_and_false}
+use Rattle.coverage.proofs.Totals.{total_le, total_le_each, total_same_each, total_none, total_add, total_swap, if_add, if_mono, if_positive, if_and_le, if_and_true, if_and_false}
 use Rattle.coverage.proofs.Periods.{total_times}
 use Rattle.coverage.proofs.Places.{sum_below, below_le, below_same, below_add, below_none, some_term, term_le, one_less, one_less_is, one_less_sum, rows_by_place, latest}
 
@@ -140,11 +140,7 @@ module _ (T : Terms) (a g c : ℕ → ℕ) (j : ℕ) (lj : j < T.debts) (pj : 0 
   uncredited_after c' d late = total_none (λ q. owed T (one_less a j) d q - credited T c' q) T.periods (λ q. omega (arith, nothing q))
     where
       each : (q k : ℕ) → k < T.debts → amount_if (due T d q k) (one_less a j k) ≡ 0
-      each q k h =
-          elim (cases_lt 0 (a k)) [
-            | inl p ↦ if_and_false (eqb (T.period k) q) (leb d (T.day k)) (one_less a j k) (lt-leb d (T.day k) (omega (arith, top k h p)))
-            | inr z ↦ omega (arith, if_le (due T d q k) (one_less a j k))
-          ]
+      each q k h = grind (arith, nat_tests, top k h)
 
       nothing : (q : ℕ) → owed T (one_less a j) d q ≡ 0
       nothing q = below_none T.debts (λ k. amount_if (due T d q k) (one_less a j k)) (each q)
@@ -153,11 +149,7 @@ module _ (T : Terms) (a g c : ℕ → ℕ) (j : ℕ) (lj : j < T.debts) (pj : 0 
 
   module _ (k : ℕ) (lk : k < T.credits) (pk : 0 < c k) (same : T.earned k ≡ T.period j) where
     still_enough_by_credit : Enough T a g c → Enough T (one_less a j) g (one_less c k)
-    still_enough_by_credit h i li =
-        elim (cases_lt (T.day j) (T.day i)) [
-          | inl after ↦ omega (arith, uncredited_after (one_less c k) (T.day i) after)
-          | inr by ↦ omega (arith, h i li, fewer by)
-        ]
+    still_enough_by_credit h i li = grind (arith, uncredited_after (one_less c k) (T.day i), h i li, fewer)
       where
         fewer : T.day i ≤ T.day j → uncredited T (one_less a j) (one_less c k) (T.day i) ≤ uncredited T a c (T.day i)
         fewer by =
@@ -202,17 +194,15 @@ module _ (T : Terms) (a g c : ℕ → ℕ) (j : ℕ) (lj : j < T.debts) (pj : 0 
     module _ (i : ℕ) (li : i < T.guarantees) (pi : 0 < g i) (ok : T.valid i (T.day j) ≡ true) where
       still_enough_by_guarantee : Enough T a g c → Enough T (one_less a j) (one_less g i) c
       still_enough_by_guarantee h x lx =
-          elim (cases_lt (T.day j) (T.day x)) [
-            | inl after ↦ omega (arith, uncredited_after c (T.day x) after)
-            | inr by ↦
-                omega (
-                  arith,
-                  h x lx,
-                  uncredited_less (T.day x) by,
-                  one_less_sum T.guarantees (λ y. T.valid y (T.day x)) g i li pi,
-                  ap (λ b. amount_if b 1) (T.valid_before i (T.day x) (T.day j) by ok),
-                )
-          ]
+          grind (
+            arith,
+            nat_tests,
+            h x lx,
+            uncredited_after c (T.day x),
+            uncredited_less (T.day x),
+            one_less_sum T.guarantees (λ y. T.valid y (T.day x)) g i li pi,
+            T.valid_before i (T.day x) (T.day j),
+          )
 
       add_guarantee : Allocated T (one_less a j) (one_less g i) c → Allocated T a g c
       add_guarantee A =

@@ -1,9 +1,9 @@
 -- What the capacity means: the theorems.
-use Rattle.std.proofs.Common.{◌≡◌, ℕ, suc, ◌+◌, ◌<◌, ◌≤◌, false, ◌&&◌, eqb, leb, ◌↔◌, List, [], ◌∷◌, ℤ, pos, neg_ℤ, ◌≤ℤ◌, refl, ap, ◌∙◌, ap₂, arith}
+use Rattle.std.proofs.Common.{◌≡◌, ℕ, suc, ◌+◌, ◌<◌, ◌≤◌, false, ◌↔◌, List, [], ◌∷◌, ℤ, pos, neg_ℤ, ◌≤ℤ◌, refl, ap, ◌∙◌, ap₂, arith}
 use borrow.Author.Differences.{ints}
 use lib.Signed.{clash_ℤ}
 use Rattle.std.specs.List.{AllZip, AllByRecursion}
-use Rattle.std.proofs.lemmas.Bool.{eq-eqb, cond-false}
+use Rattle.std.proofs.lemmas.Bool.{cond-false}
 use Rattle.std.proofs.ByRecursion.{All-weaker, All-get_or}
 use Rattle.std.proofs.lemmas.Bool.Decides.{nat_tests}
 use Rattle.coverage.specs.declared.rows.Debt.{Debt}
@@ -11,7 +11,7 @@ use Rattle.coverage.specs.declared.rows.Credit.{Credit}
 use Rattle.coverage.specs.Allocation.{Position, Coverable, debt_at, no_debt, total, amount_if}
 use Rattle.coverage.specs.Capacity.{owed, credited, excess, owes_in, periods, uncredited, times, ListedOnce, capacity_at, SmallestOfTheDays}
 use Rattle.coverage.specs.Meaning.{Dated, CoveredExactlyFromZero, BelowZeroNoneCovers, UnusedPeriod, LargestFurtherDebt, SmallestFurtherGuarantee, AtMost, SmallerDebtsStayCovered, with_debt, with_guarantee, with_debts}
-use Rattle.coverage.proofs.Totals.{total_same, total_le_each, if_mono}
+use Rattle.coverage.proofs.Totals.{total_same, total_le_each}
 use Rattle.coverage.proofs.Periods.{times_periods, periods_once, owed_nowhere, however_listed}
 use Rattle.coverage.proofs.Placed.{needed, enough}
 
@@ -61,7 +61,7 @@ no_credit_in q (c ∷ cs) h = grind (arith, nat_tests, no_credit_in q cs h.1, h.
 -- a period that stands nowhere in a list of periods differs from each of them
 differ : (q : ℕ) (qs : List ℕ) → times q qs ≡ 0 → AllByRecursion (λ r. q ≡ r → ⊥) qs
 differ q [] h = tt
-differ q (r ∷ qs) h = ((λ e. absurd (omega (arith, h, ap (λ t. amount_if t 1) (eq-eqb q r e)))), differ q qs (omega (arith, h)))
+differ q (r ∷ qs) h = ((λ e. grind (arith, nat_tests)), differ q qs (omega arith))
 
 module _ (p : Position) (q : ℕ) (unused : UnusedPeriod p q) (n : ℕ) where
   not_owed : owes_in p.debts q ≡ false
@@ -129,13 +129,7 @@ smaller_owed : (d q : ℕ) (xs ys : List Debt) → AllZip AtMost xs ys → owed 
 smaller_owed d q [] [] h = omega arith
 smaller_owed d q [] (y ∷ ys) h = absurd h
 smaller_owed d q (x ∷ xs) [] h = absurd h
-smaller_owed d q (x ∷ xs) (y ∷ ys) h =
-    omega (
-      arith,
-      smaller_owed d q xs ys h.1,
-      if_mono (eqb x.period q && leb d x.day) x.grains y.grains h.0.no_larger,
-      ap₂ (λ r t. amount_if (eqb r q && leb d t) y.grains) h.0.same_period h.0.same_day,
-    )
+smaller_owed d q (x ∷ xs) (y ∷ ys) h = grind (arith, nat_tests, smaller_owed d q xs ys h.1, h.0.same_day, h.0.same_period, h.0.no_larger)
 
 smaller_once : (qs : List ℕ) (xs ys : List Debt) → AllZip AtMost xs ys → ListedOnce qs ys → ListedOnce qs xs
 smaller_once qs [] [] h k = tt

@@ -1,12 +1,12 @@
 -- Sums over the settlement periods of a list of debts.
-use Rattle.std.proofs.Common.{◌≡◌, ℕ, ◌+◌, ◌*◌, Bool, true, false, cond, ◌||◌, ◌==◌, eqb, leb, List, [], ◌∷◌, sym, refl, ap, ◌∙◌, arith}
-use Rattle.std.proofs.lemmas.Bool.{eq-eqb, ne_eqb, eqb-true, eqb-false, or_parts, or_right, cond-false}
+use Rattle.std.proofs.Common.{◌≡◌, ℕ, ◌+◌, ◌*◌, Bool, true, false, cond, ◌||◌, ◌==◌, eqb, List, [], ◌∷◌, refl, ap, ◌∙◌, arith}
+use Rattle.std.proofs.lemmas.Bool.{cond-false}
 use Rattle.std.specs.List.{list_any}
 use Rattle.std.proofs.lemmas.Bool.Decides.{nat_tests}
 use Rattle.coverage.specs.declared.rows.Debt.{Debt}
 use Rattle.coverage.specs.Allocation.{Position, total, amount_if}
 use Rattle.coverage.specs.Capacity.{owed, excess, owes_in, periods, times, ListedOnce, HoweverListed}
-use Rattle.coverage.proofs.Totals.{total_none, if_and_le}
+use Rattle.coverage.proofs.Totals.{total_none}
 
 -- owes_in asks each debt
 pub owes_in_is : (xs : List Debt) (q : ℕ) → list_any (λ x. x.period == q) xs ≡ owes_in xs q
@@ -20,20 +20,7 @@ periods_last x xs last = cond-false (owes_in xs x.period) (periods xs) (x.period
 -- a period that something is owed in stands in the list once, any other not at all
 pub times_periods : (xs : List Debt) (q : ℕ) → times q (periods xs) ≡ amount_if (owes_in xs q) 1
 times_periods [] q = refl
-times_periods (x ∷ xs) q = go (owes_in xs x.period) refl (eqb x.period q) refl (times_periods xs q)
-  where
-    go : (b : Bool) → owes_in xs x.period ≡ b → (e : Bool) → eqb x.period q ≡ e → times q (periods xs) ≡ amount_if (owes_in xs q) 1 →
-        times q (cond b (periods xs) (x.period ∷ periods xs)) ≡ amount_if (e || owes_in xs q) 1
-    go true h true same ih = ih ∙ ap (λ t. amount_if t 1) (ap (owes_in xs) (sym (eqb-true x.period q same)) ∙ h)
-    go true h false other ih = ih
-    go false h true same ih =
-        omega (
-          arith,
-          ih,
-          ap (λ t. amount_if t 1) (eq-eqb q x.period (sym (eqb-true x.period q same))),
-          ap (λ t. amount_if t 1) (ap (owes_in xs) (sym (eqb-true x.period q same)) ∙ h),
-        )
-    go false h false other ih = omega (arith, ih, ap (λ t. amount_if t 1) (ne_eqb q x.period (λ e. eqb-false x.period q other (sym e))))
+times_periods (x ∷ xs) q = grind (arith, nat_tests, times_periods xs q)
 
 -- every debt's period is listed once
 pub periods_once : (xs : List Debt) → ListedOnce (periods xs) xs
@@ -42,10 +29,7 @@ periods_once xs = go xs (λ x h. times_periods xs x.period ∙ ap (λ t. amount_
     -- each debt of the rest owes in its own period
     go : (ys : List Debt) → ((x : Debt) → owes_in ys x.period ≡ true → times x.period (periods xs) ≡ 1) → ListedOnce (periods xs) ys
     go [] h = tt
-    go (y ∷ ys) h = (
-      h y (ap (λ t. t || owes_in ys y.period) (eq-eqb y.period y.period refl)),
-      go ys (λ x k. h x (or_right (eqb y.period x.period) (owes_in ys x.period) k)),
-    )
+    go (y ∷ ys) h = (h y (grind (arith, nat_tests)), go ys (λ x k. h x (grind (arith, nat_tests))))
 
 -- a period that stands so often in a list is met so often
 pub total_times : (q n : ℕ) (qs : List ℕ) → total (λ r. amount_if (eqb q r) n) qs ≡ times q qs * n
@@ -67,9 +51,6 @@ NothingOutside xs f = (q : ℕ) → owes_in xs q ≡ false → f q ≡ 0
 
 abbrev SameListed : List ℕ → List Debt → (ℕ → ℕ) → Type 0
 SameListed qs xs f = total f qs ≡ total f (periods xs)
-
-neither : (a b : Bool) → a ≡ false → b ≡ false → (a || b) ≡ false
-neither a b e h = grind arith
 
 -- one debt more: its period is another debt's too ..
 listed_again : (x : Debt) (xs : List Debt) (f : ℕ → ℕ) → owes_in xs x.period ≡ true → NothingOutside (x ∷ xs) f → NothingOutside xs f
@@ -100,14 +81,7 @@ any_listing (x ∷ xs) qs once f z = go (owes_in xs x.period) refl (any_listing 
 -- in a period in which nothing is owed, no day's debts come to anything
 pub owed_nowhere : (xs : List Debt) (day q : ℕ) → owes_in xs q ≡ false → owed xs day q ≡ 0
 owed_nowhere [] day q h = refl
-owed_nowhere (x ∷ xs) day q h =
-    let parts = or_parts (eqb x.period q) (owes_in xs q) h in
-    omega (
-      arith,
-      owed_nowhere xs day q parts.1,
-      if_and_le (eqb x.period q) (leb day x.day) x.grains,
-      ap (λ t. amount_if t x.grains) parts.0,
-    )
+owed_nowhere (x ∷ xs) day q h = grind (arith, nat_tests, owed_nowhere xs day q)
 
 pub however_listed : (p : Position) (day : ℕ) → HoweverListed p day
 however_listed p day qs once = any_listing p.debts qs once (excess p day) (λ q h. omega (arith, owed_nowhere p.debts day q h))

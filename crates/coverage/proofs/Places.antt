@@ -4,7 +4,7 @@ use Rattle.std.specs.List.{AllByRecursion}
 use Rattle.std.proofs.lemmas.Bool.{cases_lt}
 use Rattle.std.proofs.lemmas.Bool.Decides.{nat_tests}
 use Rattle.coverage.specs.Allocation.{total, amount_if, Row}
-use Rattle.coverage.proofs.Totals.{if_zero, if_add, if_swap}
+use Rattle.coverage.proofs.Totals.{if_zero}
 
 abbrev pub sum_below : ℕ → (ℕ → ℕ) → ℕ
 sum_below zero f = 0
@@ -42,7 +42,7 @@ total_places f d (x ∷ xs) = omega (arith, total_places f d xs, below_front (le
 -- one term is at most the sum
 pub term_le : (n : ℕ) (f : ℕ → ℕ) (j : ℕ) → j < n → f j ≤ sum_below n f
 term_le zero f j h = absurd (omega arith)
-term_le (suc n) f j h = elim (either n j h) [ inl e ↦ omega (arith, ap f e) | inr l ↦ omega (arith, term_le n f j l) ]
+term_le (suc n) f j h = grind (arith, term_le n f j)
 
 -- where only one term is left, the sum is that term
 pub below_at : (n : ℕ) (f : ℕ → ℕ) (j : ℕ) → j < n → sum_below n (λ k. amount_if (eqb j k) (f k)) ≡ f j
@@ -73,10 +73,7 @@ one_less_sum n w f j l h =
     ∙ ap (λ x. sum_below n (λ k. amount_if (w k) (one_less f j k)) + x) (below_at n (λ k. amount_if (w k) 1) j l)
   where
     each : (k : ℕ) → amount_if (w k) (f k) ≡ amount_if (w k) (one_less f j k) + amount_if (eqb j k) (amount_if (w k) 1)
-    each k =
-        ap (amount_if (w k)) (one_less_is f j k h)
-        ∙ if_add (w k) (one_less f j k) (amount_if (eqb j k) 1)
-        ∙ ap (λ x. amount_if (w k) (one_less f j k) + x) (if_swap (w k) (eqb j k) 1)
+    each k = grind (arith, nat_tests)
 
 -- what rows hold at the places that pass a test is what the rows hold whose place passes
 pub rows_by_place : (n : ℕ) (w : ℕ → Bool) (place : Row → ℕ) (rows : List Row) → AllByRecursion (λ r. place r < n) rows →
@@ -86,7 +83,7 @@ rows_by_place n w place (r ∷ rows) h =
     below_same n
     (λ k. amount_if (w k) (amount_if (eqb (place r) k) r.grains + held k))
     (λ k. amount_if (eqb (place r) k) (amount_if (w k) r.grains) + amount_if (w k) (held k))
-    (λ k _. if_add (w k) (amount_if (eqb (place r) k) r.grains) (held k) ∙ ap (λ x. x + amount_if (w k) (held k)) (if_swap (w k) (eqb (place r) k) r.grains))
+    (λ k _. grind (arith, nat_tests))
     ∙ below_add n (λ k. amount_if (eqb (place r) k) (amount_if (w k) r.grains)) (λ k. amount_if (w k) (held k))
     ∙ omega (arith, below_at n (λ k. amount_if (w k) r.grains) (place r) h.0, rows_by_place n w place rows h.1)
   where
@@ -102,23 +99,11 @@ latest zero left day = inl refl
 latest (suc n) left day = go (latest n left day) (cases_lt 0 (left n))
   where
     go : (sum_below n left ≡ 0) ⊎ Latest n left day → (0 < left n) ⊎ (left n ≤ 0) → (sum_below (suc n) left ≡ 0) ⊎ Latest (suc n) left day
-    go (inl z) (inl here) = inr (
-      n,
-      omega arith,
-      here,
-      λ k l h.
-          elim (either n k l) [ inl e ↦ omega (arith, ap day e) | inr l' ↦ absurd (omega (arith, term_le n left k l')) ],
-    )
+    go (inl z) (inl here) = inr (n, omega arith, here, λ k l h. grind (arith, term_le n left k))
     go (inl z) (inr none) = inl (omega arith)
-    go (inr b) (inr none) = inr (
-      b.0,
-      omega arith,
-      b.2,
-      λ k l h.
-          elim (either n k l) [ inl e ↦ absurd (omega (arith, ap left e)) | inr l' ↦ b.3 k l' h ],
-    )
+    go (inr b) (inr none) = inr (b.0, omega arith, b.2, λ k l h. grind (arith, b.3 k))
     go (inr b) (inl here) =
         elim (cases_lt (day n) (day b.0)) [
-          | inl earlier ↦ inr (b.0, omega arith, b.2, λ k l h. elim (either n k l) [ inl e ↦ omega (arith, ap day e) | inr l' ↦ b.3 k l' h ])
-          | inr later ↦ inr (n, omega arith, here, λ k l h. elim (either n k l) [ inl e ↦ omega (arith, ap day e) | inr l' ↦ omega (arith, b.3 k l' h) ])
+          | inl earlier ↦ inr (b.0, omega arith, b.2, λ k l h. grind (arith, b.3 k))
+          | inr later ↦ inr (n, omega arith, here, λ k l h. grind (arith, b.3 k))
         ]

@@ -18,12 +18,6 @@ if_add b x y = grind (arith, nat_tests)
 pub if_mono : (b : Bool) (x y : ℕ) → x ≤ y → amount_if b x ≤ amount_if b y
 if_mono b x y h = grind (arith, nat_tests)
 
-pub if_swap : (a b : Bool) (x : ℕ) → amount_if a (amount_if b x) ≡ amount_if b (amount_if a x)
-if_swap a b x = grind (arith, nat_tests)
-
-pub if_le : (b : Bool) (x : ℕ) → amount_if b x ≤ x
-if_le b x = grind (arith, nat_tests)
-
 pub if_positive : (b : Bool) (x : ℕ) → 0 < amount_if b x → (b ≡ true) × (0 < x)
 if_positive b x h = grind (arith, nat_tests)
 

@@ -1,4 +1,4 @@
-//! A position within the limits, whose sums fit 63 bits, and the figures that are made of them.
+//! A position that was found within the limits: its sums, which fit 63 bits, and the figures that are made of them.
 ghost use Rattle.std.specs.Prelude.{◌≡◌, ◌^◌, ◌<◌, ◌≤◌, ◌==◌, ◌&&◌, nat_le, sum_by, filter, is_some, IfSome, Decides};
 ghost use Rattle.coverage.specs.Admission.{Admissible, position_of};
 ghost use Rattle.coverage.specs.Allocation.{valid};
@@ -7,7 +7,7 @@ ghost use Rattle.coverage.specs.Capacity.{excess, owes_in, uncredited, exposure,
 use crate::position::Position;
 use crate::rows::Debt;
 
-/// A position that was found within the limits.
+/// A position within the limits, so that its days are in order and its sums fit.
 #[derive(Drop)]
 pub(crate) struct Admitted<'a> {
     position: Position<'a>,
@@ -18,7 +18,7 @@ pub(crate) struct Admitted<'a> {
 }
 
 impl Position<'_> {
-    /// The position with what is known of it where it is within the limits.
+    /// The position for its figures; none where it is past the limits.
     pub(crate) fn admitted(&self) -> Option<Admitted<'_>>
         ensures exactly_when_within_the_limits { Decides (is_some result) (Admissible (position_of self.now)) }
         ensures of_this_position { IfSome result (λ a. a.position ≡ self.now) }
