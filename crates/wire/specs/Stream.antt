@@ -1,6 +1,7 @@
 -- How a stream of bytes falls into lines. Assumes nothing.
-use Rattle.std.specs.Prelude.{◌≡◌, ℕ, ◌<◌, List, ◌∷◌, ◌++◌, length, Some, None, vec_items, Option, ◌≢◌, slice_index}
+use Rattle.std.specs.Prelude.{◌≡◌, ℕ, ◌<◌, List, ◌∷◌, ◌++◌, length, Some, None, Option, ◌≢◌, slice_index}
 use Rattle.std.specs.Borrow.{Bor}
+use Rattle.reserved.specs.Reserved.{items}
 use Rattle.wire.specs.declared.stream.LineStart.{LineStart}
 use Rattle.wire.specs.Lines.{line_feed}
 
@@ -15,4 +16,4 @@ FirstLine text (Some (line, rest)) = (text ≡ line.now ++ line_feed ∷ rest.no
 
 -- the bytes that are kept of a line's beginning
 abbrev pub kept : LineStart → List ℕ
-kept start = vec_items start.bytes
+kept start = items start.bytes

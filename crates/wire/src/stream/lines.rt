@@ -1,33 +1,17 @@
 //! The first line of a text, and the beginning of a line that comes in parts.
 
-ghost use Rattle.std.specs.Prelude.{◌≡◌, ℕ, ◌<◌, ◌≤◌, [], ◌++◌, length, take, IfOk, ◌==◌, ◌≢◌, slice_index};
+ghost use Rattle.std.specs.Prelude.{◌≡◌, [], ◌++◌, length, take, IfOk, ◌==◌};
 ghost use Rattle.wire.specs.Stream.{FirstLine, kept};
 
-use crate::stream::{KEPT_BYTES, LineStart};
+use crate::stream::LineStart;
+use reserved::Reserved;
 use std::alloc::{AllocError, Global};
-
-/// Where the first line feed stands, or the text's length where there is none.
-fn line_feed(text: &[u8]) -> usize
-    ensures within { result ≤ length text.now }
-    ensures none_before { (k : ℕ) → k < result → slice_index text.now k ≢ 10 }
-    ensures stands_there { result < length text.now → slice_index text.now result ≡ 10 }
-{
-    for (i, byte) in text.iter().enumerate() {
-        if *byte == b'\n' {
-            return i;
-        }
-    }
-    text.len()
-}
 
 /// The first line of a text and what follows its line feed; `None` where there is no line feed.
 pub fn first_line(text: &[u8]) -> Option<(&[u8], &[u8])>
     ensures splits_at_the_first_line_feed { FirstLine text.now result }
 {
-    let end = line_feed(text);
-    if end >= text.len() {
-        return None;
-    }
+    let end = text.iter().position(|byte| *byte == b'\n')?;
     Some((&text[0..end], &text[end + 1..text.len()]))
 }
 
@@ -36,7 +20,7 @@ impl LineStart {
     pub fn new(heap: Global) -> Result<LineStart, AllocError>
         ensures keeps_nothing { IfOk result (λ start. kept start ≡ []) }
     {
-        let bytes = Vec::with_capacity(heap, KEPT_BYTES)?;
+        let bytes = Reserved::new(heap)?;
         Ok(LineStart { bytes })
     }
 
@@ -45,10 +29,9 @@ impl LineStart {
         ensures keeps_the_first_81_bytes { kept self.new ≡ take 81 (kept self.old ++ part.now) }
     {
         for byte in part {
-            if self.bytes.len() >= KEPT_BYTES {
+            if self.bytes.push(*byte).is_err() {
                 return;
             }
-            self.bytes.push_reserved(*byte);
         }
     }
 
