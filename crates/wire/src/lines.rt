@@ -17,7 +17,8 @@ pub const ANSWER_BYTES: usize = 96;
 pub const NUMBER_BYTES: usize = 20;
 
 /// A text that grows at its front, as far as the longest line, since the last digit of a number is the first to come out.
-// Numbers that `itoa::Buffer` prints, gathered from front to back in an `ArrayString`, took 0.30 s at 3 million queries; this, 0.19 s.
+// From front to back, with numbers that `itoa::Buffer` prints and an `ArrayString` gathers, 3 million queries took 0.30 s;
+// this way they took 0.19 s.
 #[derive(Drop)]
 pub struct Text {
     bytes: [u8; ANSWER_BYTES],
@@ -126,7 +127,7 @@ impl Reply for Refusal {
 }
 
 /// The digit that an answer line has for a status.
-// No `From`: neither the status nor the byte is a type of this crate, and another format would have another digit.
+// No `From`, here and below: neither the enum nor the byte is a type of this crate, and the digit is the format's.
 fn status_digit(status: Status) -> u8
     ensures is_the_digit { result ≡ status_digit status }
 {
