@@ -63,7 +63,7 @@ impl LineFault {
             LineFault::WrongFieldCount => (103, Layer::Field, None),
             LineFault::NotANumber { place } => (104, Layer::Field, Some(place)),
             LineFault::NotOpen | LineFault::AlreadyOpen => (201, Layer::Line, None),
-            LineFault::Book(fault) => return Some(fault.refusal()),
+            LineFault::Book(fault) => return Some(Refusal::from(fault)),
             LineFault::OutOfMemory => return None,
         };
         Some(Refusal {

@@ -6,7 +6,7 @@ mod tests {
     use book::{Book, OpenFault};
     use desk::{Desk, MarketName};
     use market::{Market, Weeks};
-    use records::{Fault, Terms};
+    use records::{Fault, Refusal, Terms};
     use std::test::Fail;
 
     // A book of MI-XBID with a margin of 3 percent, opened on day 5.
@@ -24,7 +24,7 @@ mod tests {
     }
 
     fn number(fault: Fault) -> u16 {
-        fault.refusal().number
+        Refusal::from(fault).number
     }
 
     #[test]

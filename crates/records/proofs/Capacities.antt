@@ -1,5 +1,5 @@
 -- The worth of guarantees falls with the days, so that the last day's is the smallest. Assumes nothing.
-use Rattle.std.proofs.Common.{◌≡◌, ℕ, zero, suc, ◌+◌, ◌-◌, ◌≤◌, Bool, true, false, cond, ◌&&◌, eqb, List, [], ◌∷◌, Some, None, Option, sym, ap, ◌∙◌, arith}
+use Rattle.std.proofs.Common.{◌≡◌, ℕ, zero, suc, ◌+◌, ◌-◌, ◌≤◌, Bool, cond, ◌&&◌, eqb, List, [], ◌∷◌, Some, None, Option, sym, ap, ◌∙◌, arith}
 use Rattle.std.proofs.lemmas.Bool.Decides.{nat_tests}
 use Rattle.records.specs.declared.rows.Guarantee.{Guarantee}
 use Rattle.records.specs.Rows.{valid, worth}
@@ -7,10 +7,8 @@ use Rattle.records.specs.State.{State}
 use Rattle.records.specs.Capacity.{guaranteed, guaranteed_on, capacity, least, LeastOver}
 
 valid_falls : (o : Option ℕ) (d e w : ℕ) (b : Bool) → d ≤ e → cond (b && valid e o) w 0 ≤ cond (b && valid d o) w 0
-valid_falls None d e w true h = omega arith
-valid_falls None d e w false h = omega arith
-valid_falls (Some last) d e w true h = grind (arith, nat_tests)
-valid_falls (Some last) d e w false h = omega arith
+valid_falls None d e w b h = grind (arith, nat_tests)
+valid_falls (Some last) d e w b h = grind (arith, nat_tests)
 
 pub guaranteed_falls : (margin share participant : ℕ) (gs : List Guarantee) (d e : ℕ) → d ≤ e →
     guaranteed margin share participant gs e ≤ guaranteed margin share participant gs d

@@ -1,18 +1,9 @@
 -- The first row that fits, by its place: what it is to find it, to change it and to remove it. Assumes nothing.
-use Rattle.std.proofs.Common.{◌≡◌, ℕ, suc, ◌+◌, ◌<◌, Bool, true, false, cond, List, [], ◌∷◌, length, get_or, drop, set, Some, None, sym, refl, ap, ◌∙◌, subst, arith}
-use Rattle.std.specs.List.{remove as removed}
-use Rattle.std.proofs.lemmas.List.{at_drop_more}
-use Rattle.records.specs.Tables.{find, change, remove, place_from, place}
+use Rattle.std.proofs.Common.{◌≡◌, ℕ, suc, ◌+◌, ◌<◌, Bool, true, false, cond, List, [], ◌∷◌, length, get_or, set, Some, None, refl, ap, subst, arith}
+use Rattle.std.specs.List.{position_from, remove as removed}
+use Rattle.records.specs.Tables.{find, change, remove, place}
 
 module _ {X : Type 0} (fits : X → Bool) where
-  -- a loop's step: the row at i fits, or does not
-  pub place_here : (xs : List X) (i : ℕ) (x : X) → i < length xs → x ≡ get_or xs i x → fits x ≡ true → place_from fits i (drop i xs) ≡ Some i
-  place_here xs i x within is fit = at_drop_more (place_from fits i) xs i x within ∙ rw (sym is, fit)
-
-  pub place_further : (xs : List X) (i : ℕ) (x : X) → i < length xs → x ≡ get_or xs i x → fits x ≡ false →
-      place_from fits i (drop i xs) ≡ place_from fits (i + 1) (drop (i + 1) xs)
-  place_further xs i x within is unfit = at_drop_more (place_from fits i) xs i x within ∙ rw (sym is, unfit)
-
   -- the first row that fits stands at i
   pub record Stands (xs : List X) (i : ℕ) : Type 0 where
     pub within : i < length xs
@@ -21,8 +12,8 @@ module _ {X : Type 0} (fits : X → Bool) where
     pub taken : remove fits xs ≡ removed xs i
 
   stands_by : (b : Bool) (n : ℕ) (x : X) (xs : List X) (j : ℕ) → fits x ≡ b →
-      (place_from fits (n + 1) xs ≡ Some j → (i : ℕ) × (j ≡ n + 1 + i) × Stands xs i) →
-      cond b (Some n) (place_from fits (n + 1) xs) ≡ Some j → (i : ℕ) × (j ≡ n + i) × Stands (x ∷ xs) i
+      (position_from fits (n + 1) xs ≡ Some j → (i : ℕ) × (j ≡ n + 1 + i) × Stands xs i) →
+      cond b (Some n) (position_from fits (n + 1) xs) ≡ Some j → (i : ℕ) × (j ≡ n + i) × Stands (x ∷ xs) i
   stands_by true n x xs j fit rest e = (
     0,
     let s : n ≡ j = cc in omega arith,
@@ -46,8 +37,8 @@ module _ {X : Type 0} (fits : X → Bool) where
         },
       )
 
-  stands_from : (n : ℕ) (xs : List X) (j : ℕ) → place_from fits n xs ≡ Some j → (i : ℕ) × (j ≡ n + i) × Stands xs i
-  stands_from n [] j e = absurd (let z : ◌≡◌ {A = ℕ} 0 1 = cc in omega arith)
+  stands_from : (n : ℕ) (xs : List X) (j : ℕ) → position_from fits n xs ≡ Some j → (i : ℕ) × (j ≡ n + i) × Stands xs i
+  stands_from n [] j e = cc
   stands_from n (x ∷ xs) j e = stands_by (fits x) n x xs j refl (stands_from (n + 1) xs j) e
 
   pub stands : (xs : List X) (i : ℕ) → place fits xs ≡ Some i → Stands xs i
@@ -57,14 +48,9 @@ module _ {X : Type 0} (fits : X → Bool) where
       let same : a.0 ≡ i = omega arith in
       subst (Stands xs) same a.2
 
-  nowhere_by : (b : Bool) (n : ℕ) (x : X) (xs : List X) → fits x ≡ b → (place_from fits (n + 1) xs ≡ None → find fits xs ≡ None) →
-      cond b (Some n) (place_from fits (n + 1) xs) ≡ None → find fits (x ∷ xs) ≡ None
-  nowhere_by true n x xs fit rest e = absurd (let z : ◌≡◌ {A = ℕ} 0 1 = cc in omega arith)
-  nowhere_by false n x xs unfit rest e = rw unfit (rest e)
-
-  nowhere_from : (n : ℕ) (xs : List X) → place_from fits n xs ≡ None → find fits xs ≡ None
+  nowhere_from : (n : ℕ) (xs : List X) → position_from fits n xs ≡ None → find fits xs ≡ None
   nowhere_from n [] e = refl
-  nowhere_from n (x ∷ xs) e = nowhere_by (fits x) n x xs refl (nowhere_from (n + 1) xs) e
+  nowhere_from n (x ∷ xs) e = let rest = nowhere_from (n + 1) xs in grind arith
 
   -- no row fits
   pub nowhere : (xs : List X) → place fits xs ≡ None → find fits xs ≡ None

@@ -1,8 +1,8 @@
 -- What the rows of the tables mean. Assumes nothing.
 use Rattle.std.specs.Prelude.{ℕ, ◌-◌, ◌*◌, Bool, true, ◌&&◌, List, Some, None, Option, ◌==◌, nat_le}
+use Rattle.std.specs.List.{list_all}
 use Rattle.records.specs.declared.rows.Participant.{Participant}
 use Rattle.records.specs.declared.rows.Guarantee.{Guarantee}
-use Rattle.records.specs.Tables.{every}
 
 unfoldable pub is_participant : ℕ → Participant → Bool
 is_participant number row = row.number == number
@@ -10,7 +10,7 @@ is_participant number row = row.number == number
 unfoldable pub is_guarantee : ℕ → ℕ → Guarantee → Bool
 is_guarantee participant number row = row.participant == participant && row.number == number
 
--- A guarantee is valid on every trading day up to its last one; one without a last day is valid on every day.
+-- A guarantee is valid on list_all trading day up to its last one; one without a last day is valid on list_all day.
 abbrev pub valid : ℕ → Option ℕ → Bool
 valid day None = true
 valid day (Some last) = nat_le day last
@@ -28,7 +28,7 @@ abbrev pub amount_in_range : Guarantee → Bool
 amount_in_range row = nat_le row.cents 100000000000
 
 unfoldable pub shares_in_range : List Participant → Bool
-shares_in_range rows = every share_in_range rows
+shares_in_range rows = list_all share_in_range rows
 
 unfoldable pub amounts_in_range : List Guarantee → Bool
-amounts_in_range rows = every amount_in_range rows
+amounts_in_range rows = list_all amount_in_range rows

@@ -1,12 +1,9 @@
 -- Tables as lists of rows: the first row that passes a test is found, changed or removed. Assumes nothing.
-use Rattle.std.specs.Prelude.{ℕ, ◌+◌, Bool, true, cond, ◌&&◌, List, [], ◌∷◌, Some, None, Option}
+use Rattle.std.specs.Prelude.{ℕ, Bool, cond, List, [], ◌∷◌, Option}
+use Rattle.std.specs.List.{position_from}
+pub use Rattle.std.specs.List.{find}
 
 module _ {X : Type 0} (fits : X → Bool) where
-  -- the first row that fits
-  abbrev pub find : List X → Option X
-  find [] = None
-  find (x ∷ xs) = cond (fits x) (Some x) (find xs)
-
   -- the table with its first row that fits changed
   abbrev pub change : (X → X) → List X → List X
   change f [] = []
@@ -17,15 +14,6 @@ module _ {X : Type 0} (fits : X → Bool) where
   remove [] = []
   remove (x ∷ xs) = cond (fits x) xs (x ∷ remove xs)
 
-  -- where the first row that fits stands, counted from n
-  abbrev pub place_from : ℕ → List X → Option ℕ
-  place_from n [] = None
-  place_from n (x ∷ xs) = cond (fits x) (Some n) (place_from (n + 1) xs)
-
+  -- where the first row that fits stands
   abbrev pub place : List X → Option ℕ
-  place xs = place_from 0 xs
-
-  -- every row passes
-  abbrev pub every : List X → Bool
-  every [] = true
-  every (x ∷ xs) = fits x && every xs
+  place xs = position_from fits 0 xs

@@ -1,8 +1,9 @@
 //! The calls of the book with their arguments, and the check of what they say by themselves.
+#![tactic(auto, unfolding(crate::specs::Refusals::outside, crate::specs::Calls::price_outside))]
 
-ghost use Rattle.std.specs.Prelude.{◌≡◌};
-ghost use Rattle.records.specs.Refusals.{cleared, due, fault_if, outside};
-ghost use Rattle.records.specs.Calls.{input, terms_input, day_outside, price_outside};
+ghost use Rattle.std.specs.Prelude.{◌≡◌, not};
+ghost use Rattle.records.specs.Refusals.{cleared, due, fault_if};
+ghost use Rattle.records.specs.Calls.{input, terms_input};
 
 use crate::fault::Fault;
 
@@ -39,70 +40,46 @@ pub enum Call {
     },
 }
 
-/// The numbers from the least to the most.
-#[derive(Clone, Copy)]
-struct Range {
-    least: u64,
-    most: u64,
-}
+const MAX_PARTICIPANT: u64 = 65_535;
 
-const PARTICIPANT: Range = Range {
-    least: 1,
-    most: 65_535,
-};
+const MAX_GUARANTEE: u64 = 4_294_967_295;
 
-const NUMBER: Range = Range {
-    least: 1,
-    most: 4_294_967_295,
-};
+const MAX_PERCENT: u64 = 99;
 
-const PERCENT: Range = Range { least: 0, most: 99 };
+const MAX_SHARE: u64 = 1_000;
 
-const SHARE: Range = Range {
-    least: 0,
-    most: 1_000,
-};
+const MAX_CENTS: u64 = 100_000_000_000;
 
-const CENTS: Range = Range {
-    least: 1,
-    most: 100_000_000_000,
-};
-
-const DAY: Range = Range {
-    least: 0,
-    most: 40_000,
-};
+const MAX_DAY: u64 = 40_000;
 
 const MAX_PRICE: u64 = 400_000;
 
-impl Range {
-    /// The fault for a number outside the range.
-    fn check(self, number: u64, fault: Fault) -> Result<(), Fault>
-        ensures fault_outside_the_range { result ≡ fault_if (outside self.least self.most number) fault }
-    {
-        if number < self.least || number > self.most {
-            return Err(fault);
-        }
-        Ok(())
-    }
+/// The fault, unless the condition holds.
+fn ensure(holds: bool, fault: Fault) -> Result<(), Fault>
+    ensures fault_unless_it_holds { result ≡ fault_if (not holds) fault }
+{
+    if holds { Ok(()) } else { Err(fault) }
 }
 
-fn day_in_range(day: Option<u64>, fault: Fault) -> Result<(), Fault>
-    ensures fault_after_the_last_day { result ≡ fault_if (day_outside day) fault }
+/// The number of a participant.
+fn check_participant(participant: u64) -> Result<(), Fault>
+    ensures fault_due_for_the_input { result ≡ cleared (due (input (Call.Query participant))) }
 {
-    match day {
-        Some(day) => DAY.check(day, fault),
-        None => Ok(()),
-    }
+    ensure(
+        (1..=MAX_PARTICIPANT).contains(&participant),
+        Fault::NumberOutOfRange { place: 2 },
+    )
 }
 
-fn price_in_range(price: i64, fault: Fault) -> Result<(), Fault>
-    ensures fault_beyond_the_range { result ≡ fault_if (price_outside price) fault }
+/// The numbers of a participant and of its guarantee.
+fn check_guarantee(participant: u64, guarantee: u64) -> Result<(), Fault>
+    ensures fault_due_for_the_input { result ≡ cleared (due (input (Call.Return participant guarantee))) }
 {
-    if price.unsigned_abs() > MAX_PRICE {
-        return Err(fault);
-    }
-    Ok(())
+    check_participant(participant)?;
+    ensure(
+        (1..=MAX_GUARANTEE).contains(&guarantee),
+        Fault::NumberOutOfRange { place: 3 },
+    )
 }
 
 impl Terms {
@@ -110,39 +87,19 @@ impl Terms {
     pub fn check(self) -> Result<(), Fault>
         ensures fault_due_for_the_input { result ≡ cleared (due (terms_input self)) }
     {
-        price_in_range(self.reference, Fault::PriceOutOfRange { place: 5 })?;
-        PERCENT.check(self.margin, Fault::RateOutOfRange { place: 3 })?;
-        DAY.check(self.first_day, Fault::DayOutOfRange { place: Some(4) })
+        ensure(
+            self.reference.unsigned_abs() <= MAX_PRICE,
+            Fault::PriceOutOfRange { place: 5 },
+        )?;
+        ensure(
+            self.margin <= MAX_PERCENT,
+            Fault::RateOutOfRange { place: 3 },
+        )?;
+        ensure(
+            self.first_day <= MAX_DAY,
+            Fault::DayOutOfRange { place: Some(4) },
+        )
     }
-}
-
-fn check_admit(participant: u64, vat: u64, share: u64) -> Result<(), Fault>
-    ensures fault_due_for_the_input { result ≡ cleared (due (input (Call.Admit participant vat share))) }
-{
-    PARTICIPANT.check(participant, Fault::NumberOutOfRange { place: 2 })?;
-    PERCENT.check(vat, Fault::RateOutOfRange { place: 3 })?;
-    SHARE.check(share, Fault::RateOutOfRange { place: 4 })
-}
-
-fn check_post(
-    participant: u64,
-    guarantee: u64,
-    last_day: Option<u64>,
-    cents: u64,
-) -> Result<(), Fault>
-    ensures fault_due_for_the_input { result ≡ cleared (due (input (Call.Post participant guarantee last_day cents))) }
-{
-    check_guarantee(participant, guarantee)?;
-    CENTS.check(cents, Fault::AmountOutOfRange { place: 5 })?;
-    day_in_range(last_day, Fault::DayOutOfRange { place: Some(4) })
-}
-
-/// The numbers of a participant and of its guarantee.
-fn check_guarantee(participant: u64, guarantee: u64) -> Result<(), Fault>
-    ensures fault_due_for_the_input { result ≡ cleared (due (input (Call.Return participant guarantee))) }
-{
-    PARTICIPANT.check(participant, Fault::NumberOutOfRange { place: 2 })?;
-    NUMBER.check(guarantee, Fault::NumberOutOfRange { place: 3 })
 }
 
 impl Call {
@@ -155,20 +112,32 @@ impl Call {
                 participant,
                 vat,
                 share,
-            } => check_admit(participant, vat, share),
+            } => {
+                check_participant(participant)?;
+                ensure(vat <= MAX_PERCENT, Fault::RateOutOfRange { place: 3 })?;
+                ensure(share <= MAX_SHARE, Fault::RateOutOfRange { place: 4 })
+            }
             Call::Post {
                 participant,
                 guarantee,
                 last_day,
                 cents,
-            } => check_post(participant, guarantee, last_day, cents),
+            } => {
+                check_guarantee(participant, guarantee)?;
+                ensure(
+                    (1..=MAX_CENTS).contains(&cents),
+                    Fault::AmountOutOfRange { place: 5 },
+                )?;
+                ensure(
+                    last_day.is_none_or(|day| day <= MAX_DAY),
+                    Fault::DayOutOfRange { place: Some(4) },
+                )
+            }
             Call::Return {
                 participant,
                 guarantee,
             } => check_guarantee(participant, guarantee),
-            Call::Query { participant } => {
-                PARTICIPANT.check(participant, Fault::NumberOutOfRange { place: 2 })
-            }
+            Call::Query { participant } => check_participant(participant),
         }
     }
 }

@@ -55,12 +55,12 @@ impl From<ListFault> for Fault {
     }
 }
 
-impl Fault {
-    /// The number, the layer and the place with which it is answered.
-    pub fn refusal(self) -> Refusal
-        ensures as_the_table_has_it { result ≡ refusal self }
-    {
-        let (number, place) = match self {
+/// The number, the layer and the place with which a fault is answered.
+impl From<Fault> for Refusal {
+    ghost from_gives = { λ fault r. r ≡ refusal fault };
+
+    fn from(fault: Fault) -> Refusal {
+        let (number, place) = match fault {
             Fault::NumberOutOfRange { place } => (105, Some(place)),
             Fault::PriceOutOfRange { place } => (107, Some(place)),
             Fault::RateOutOfRange { place } => (108, Some(place)),

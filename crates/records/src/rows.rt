@@ -1,6 +1,7 @@
 //! The rows of the book's tables.
+#![tactic(auto, unfolding(crate::specs::Rows::is_participant, crate::specs::Rows::is_guarantee))]
 
-ghost use Rattle.std.specs.Prelude.{◌≡◌, ◌+◌, Some, None};
+ghost use Rattle.std.specs.Prelude.{◌≡◌};
 ghost use Rattle.records.specs.Rows.{valid, is_participant, is_guarantee};
 
 use crate::search::Keyed;
@@ -28,7 +29,7 @@ pub struct Guarantee {
 }
 
 /// Which guarantee of which participant.
-#[derive(Clone, Copy)]
+#[derive(Clone, Copy, PartialEq, Eq)]
 pub struct GuaranteeKey {
     pub participant: u64,
     pub number: u64,
@@ -39,25 +40,29 @@ impl Guarantee {
     pub fn is_valid_on(&self, day: u64) -> bool
         ensures up_to_the_last_day { result ≡ valid day self.now.last_day }
     {
-        match self.last_day {
-            Some(last) => day <= last,
-            None => true,
-        }
+        self.last_day.is_none_or(|last| day <= last)
     }
 }
 
-impl Keyed<u64> for Participant {
-    ghost fits = { λ number row. is_participant number row };
+impl Keyed for Participant {
+    type Key = u64;
 
-    fn has_key(&self, number: &u64) -> bool {
-        self.number == *number
+    ghost fits = { is_participant };
+
+    fn key(&self) -> u64 {
+        self.number
     }
 }
 
-impl Keyed<GuaranteeKey> for Guarantee {
+impl Keyed for Guarantee {
+    type Key = GuaranteeKey;
+
     ghost fits = { λ key row. is_guarantee key.participant key.number row };
 
-    fn has_key(&self, key: &GuaranteeKey) -> bool {
-        self.participant == key.participant && self.number == key.number
+    fn key(&self) -> GuaranteeKey {
+        GuaranteeKey {
+            participant: self.participant,
+            number: self.number,
+        }
     }
 }
