@@ -169,4 +169,3 @@ NextField before (Err fault) after = (remaining before ≡ []) × (fault ≡ Wro
 abbrev pub Ended : Reader → Result (Unit {0}) LineFault → Type 0
 Ended reader (Ok u) = remaining reader ≡ []
 Ended reader (Err fault) = (0 < length (remaining reader)) × (fault ≡ WrongFieldCount)
-

@@ -10,7 +10,7 @@ is_participant number row = row.number == number
 unfoldable pub is_guarantee : ℕ → ℕ → Guarantee → Bool
 is_guarantee participant number row = row.participant == participant && row.number == number
 
--- A guarantee is valid on list_all trading day up to its last one; one without a last day is valid on list_all day.
+-- A guarantee is valid on every trading day up to its last one; one without a last day is valid on every day.
 abbrev pub valid : ℕ → Option ℕ → Bool
 valid day None = true
 valid day (Some last) = nat_le day last

@@ -12,7 +12,7 @@ pub fn first_line(text: &[u8]) -> Option<(&[u8], &[u8])>
     ensures splits_at_the_first_line_feed { FirstLine text.now result }
 {
     let end = text.iter().position(|byte| *byte == b'\n')?;
-    Some((&text[0..end], &text[end + 1..text.len()]))
+    Some((&text[..end], &text[end + 1..]))
 }
 
 impl LineStart {
