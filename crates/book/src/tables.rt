@@ -23,6 +23,7 @@ pub struct Book<R, C> {
     calendar: C,
     terms: Terms,
     today: u64,
+    // Vectors that are searched from the front, and no maps: a map asks for memory as it grows, and no call after open may.
     participants: Reserved<Participant, MAX_PARTICIPANTS>,
     guarantees: Reserved<Guarantee, MAX_GUARANTEES>,
     ghost margin_in_range: { terms.margin ≤ 99 },

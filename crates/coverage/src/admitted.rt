@@ -31,6 +31,7 @@ impl Position<'_> {
     }
 }
 
+// That a sum fits 63 bits stands at the three that are turned into signed numbers: a type for it would be opened at once.
 impl Admitted<'_> {
     /// Minus what all debts exceed the credits by: every debt is of day 0 or later.
     pub(crate) fn exposure(&self) -> i64
@@ -86,6 +87,7 @@ impl Admitted<'_> {
         ensures sum_over_the_periods { result ≡ uncredited (position_of self.now.position) day }
         ensures fits { result < 2 ^ 63 }
     {
+        // Not a chain: whether a debt's period counts depends on the debts after it.
         let mut sum: u64 = 0;
         let mut rest = self.position.debts;
         while let Some((debt, after)) = rest.split_first() {

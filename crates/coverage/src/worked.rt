@@ -33,6 +33,7 @@ pub fn guarantee_that_ends_too_early() -> Option<i64>
     position.capacity()
 }
 
+// A function of its own, since it states other theorems of other rows: one for both would take all of these as arguments.
 /// A credit of 2, debts of 2 on day 1 and of 2 on day 2 in its period, and a guarantee of 2 to day 1: the credit has to go to the later debt.
 pub fn credit_for_the_later_debt() -> Option<i64>
     ensures nothing_left_and_nothing_lacking { result ≡ Some (pos 0) }

@@ -53,6 +53,8 @@ fn check_market(rest: &[u8]) -> Result<(), LineFault>
     Ok(())
 }
 
+// Each command takes its fields one after another: an array of fields whose length is a parameter is a form that Rattle's borrow
+// checker does not cover.
 fn read_open(rest: &[u8]) -> Result<Command, LineFault>
     ensures fault_due_or_command { Takes opens rest.now result }
 {

@@ -17,6 +17,7 @@ pub struct Terms {
     pub reference: i64,
 }
 
+// The arguments stand here and at the book's methods: a call is a value for who reads it from a line, a method for who writes it.
 /// A call of an open book. Arguments are as wide as a line can write them; each call checks its own.
 #[derive(Clone, Copy)]
 pub enum Call {

@@ -29,7 +29,7 @@ pub struct Guarantee {
 }
 
 /// Which guarantee of which participant.
-#[derive(Clone, Copy, PartialEq, Eq)]
+#[derive(Clone, Copy)]
 pub struct GuaranteeKey {
     pub participant: u64,
     pub number: u64,
@@ -44,25 +44,19 @@ impl Guarantee {
     }
 }
 
-impl Keyed for Participant {
-    type Key = u64;
-
+impl Keyed<u64> for Participant {
     ghost fits = { is_participant };
 
-    fn key(&self) -> u64 {
-        self.number
+    fn has_key(&self, number: &u64) -> bool {
+        self.number == *number
     }
 }
 
-impl Keyed for Guarantee {
-    type Key = GuaranteeKey;
-
+impl Keyed<GuaranteeKey> for Guarantee {
     ghost fits = { λ key row. is_guarantee key.participant key.number row };
 
-    fn key(&self) -> GuaranteeKey {
-        GuaranteeKey {
-            participant: self.participant,
-            number: self.number,
-        }
+    // A row beside a key, two types: a derived equality would first have to make the row's key.
+    fn has_key(&self, key: &GuaranteeKey) -> bool {
+        self.participant == key.participant && self.number == key.number
     }
 }

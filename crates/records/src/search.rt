@@ -3,20 +3,18 @@
 ghost use Rattle.std.specs.Prelude.{◌≡◌, ◌<◌, Bool, length, IfSome};
 ghost use Rattle.records.specs.Tables.{place};
 
-/// A row that is found by its key.
-pub trait Keyed {
-    type Key: PartialEq + Drop;
+/// A row that is found by a key of the type `K`.
+pub trait Keyed<K> {
+    ghost fits: { K → Self → Bool };
 
-    ghost fits: { Self.Key → Self → Bool };
-
-    fn key(&self) -> Self::Key
-        ensures fits_what_is_equal { (key : Self.Key) → Self.Key.eq result key ≡ fits key self.now };
+    fn has_key(&self, key: &K) -> bool
+        ensures tells_its_key { result ≡ fits key.now self.now };
 }
 
 /// Where the first row with the key stands.
-pub fn position<T: Keyed>(rows: &[T], key: &T::Key) -> Option<usize>
+pub fn position<K, T: Keyed<K>>(rows: &[T], key: &K) -> Option<usize>
     ensures first_match { result ≡ place (T.Keyed.fits key.now) rows.now }
     ensures within { IfSome result (λ i. i < length rows.now) }
 {
-    rows.iter().position(|row| row.key() == *key)
+    rows.iter().position(|row| row.has_key(key))
 }
