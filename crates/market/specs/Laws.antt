@@ -1,5 +1,5 @@
 -- The three market rules keep the laws of a market rule.
-use Rattle.std.specs.Prelude.{◌≡◌, ℕ, ◌+◌, ◌*◌, ◌≤◌, true, false, cond, ◌&&◌, ◌⊎◌, List, [], ◌∷◌, length, replicate, ℤ, pos, negsuc, ◌+ℤ◌, ◌-ℤ◌, ◌*ℤ◌, neg_ℤ, ◌≤ℤ◌, unsigned_abs, refl}
+use Rattle.std.specs.Prelude.{◌≡◌, ℕ, ◌+◌, ◌*◌, ◌≤◌, Bool, true, false, cond, ◌&&◌, ◌⊎◌, List, [], ◌∷◌, length, replicate, ℤ, pos, negsuc, ◌+ℤ◌, ◌-ℤ◌, ◌*ℤ◌, neg_ℤ, ◌≤ℤ◌, unsigned_abs, refl}
 use Rattle.std.proofs.Math.Path.{sym, ap}
 use Rattle.std.proofs.Common.{ap₂, subst, ◌∙◌, arith, mul-le-mul, zero-mul, le_refl}
 use Rattle.std.proofs.Math.Logic.{inl, inr}
@@ -89,15 +89,23 @@ on_opposite : (side s : Side) → s ≡ opposite side → is_on side s ≡ false
 on_opposite Buy s e = ap (is_on Buy) e
 on_opposite Sell s e = ap (is_on Sell) e
 
--- the fills of an outcome that leaves the other side unfilled are those of the side
-unfilled_allowed : (side : Side) (orders : List Order) (outcome : Outcome) → Unfilled (opposite side) orders outcome → Along (λ o fill. is_on side o.side ≡ false → fill ≡ []) orders outcome
-unfilled_allowed side = Along-weaker (λ o fill unfilled e. unfilled (not_on side o.side e))
+-- an outcome that leaves a side unfilled fills only orders whose side passes, where no side fails but that
+unfilled_allowed : (side : Side) (p : Side → Bool) → ((s : Side) → p s ≡ false → s ≡ side) → (orders : List Order) (outcome : Outcome) → Unfilled side orders outcome → Along (λ o fill. p o.side ≡ false → fill ≡ []) orders outcome
+unfilled_allowed side p f = Along-weaker (λ o fill unfilled e. unfilled (f o.side e))
+
+-- where no order of a side is chosen, the outcome at the limits leaves that side unfilled
+at_limits_unfilled : (side : Side) (chosen : Order → Bool) → ((o : Order) → o.side ≡ side → chosen o ≡ false) → (orders : List Order) → Unfilled side orders (at_limit_outcome chosen orders)
+at_limits_unfilled side chosen f [] = tt
+at_limits_unfilled side chosen f (o ∷ orders) = ((λ e. ap (λ t. cond t (replicate o.kwh o.limit) []) (f o e)), at_limits_unfilled side chosen f orders)
 
 module _ (check : ℤ) where
+  -- an order of the other side is no losing one of this
+  not_losing : (side : Side) (o : Order) → o.side ≡ opposite side → losing_on side check o ≡ false
+  not_losing side o e = ap (λ t. t && loses o.side (o.limit +ℤ check)) (on_opposite side o.side e)
+
   -- with the losing orders of one side filled at their limits, the other side is unfilled
-  at_limits_unfilled : (side : Side) (orders : List Order) → Unfilled (opposite side) orders (at_limit_outcome (losing_on side check) orders)
-  at_limits_unfilled side [] = tt
-  at_limits_unfilled side (o ∷ orders) = ((λ e. ap (λ t. cond (t && loses o.side (o.limit +ℤ check)) (replicate o.kwh o.limit) []) (on_opposite side o.side e)), at_limits_unfilled side orders)
+  other_unfilled : (side : Side) (orders : List Order) → Unfilled (opposite side) orders (at_limit_outcome (losing_on side check) orders)
+  other_unfilled side = at_limits_unfilled (opposite side) (losing_on side check) (not_losing side)
 
   module _ (vat : ℕ) (a : Amounts) (orders : List Order) where
     -- the worth with the losing orders of a side
@@ -108,7 +116,7 @@ module _ (check : ℤ) where
     unfolding filled_on
     side_least side outcome h w =
         times_mono (100 + vat) (net check (at_limits (losing_on side check) a orders)) (net check (after a orders outcome))
-        (none_worse check (is_on side) (λ o. o.limit +ℤ check) (λ o. refl) a a orders outcome h (unfilled_allowed side orders outcome w) (≤ℤ_refl (net check a)))
+        (none_worse check (is_on side) (λ o. o.limit +ℤ check) (λ o. refl) a a orders outcome h (unfilled_allowed (opposite side) (is_on side) (not_on side) orders outcome w) (≤ℤ_refl (net check a)))
 
     abbrev least : ℤ
     least = int_min (pos 0) (int_min (filled_on Buy) (filled_on Sell))
@@ -125,7 +133,7 @@ module _ (check : ℤ) where
     mpeg_reached h =
         elim (min_one (pos 0) (int_min (filled_on Buy) (filled_on Sell))) [
           | inl z ↦ inl z
-          | inr z ↦ elim (min_one (filled_on Buy) (filled_on Sell)) [ inl w ↦ by Buy (z ∙ w) (inl (at_limits_unfilled Buy orders)) | inr w ↦ by Sell (z ∙ w) (inr (at_limits_unfilled Sell orders)) ]
+          | inr z ↦ elim (min_one (filled_on Buy) (filled_on Sell)) [ inl w ↦ by Buy (z ∙ w) (inl (other_unfilled Buy orders)) | inr w ↦ by Sell (z ∙ w) (inr (other_unfilled Sell orders)) ]
         ]
       where
         by : (side : Side) → least ≡ filled_on side →
@@ -140,7 +148,7 @@ module _ (check : ℤ) where
   mpeg_sound l = record {
     nothing_is_worth_0 = λ vat v. let e : net check nothing_traded ≡ pos 0 = omega (arith, ints) in omega (arith, ints, ap (grains vat) e);
     worth_in_range = λ vat a v h. grains_range vat (net check a) v (net_range l a h);
-    some_counted = λ a orders h. (at_limit_outcome (losing_purchase check) orders, (possible (losing_purchase check) orders h.limits, inl (at_limits_unfilled Buy orders)));
+    some_counted = λ a orders h. (at_limit_outcome (losing_purchase check) orders, (possible (losing_purchase check) orders h.limits, inl (other_unfilled Buy orders)));
     at_most_0 = λ vat a orders v h. (min_under (int_min (filled_on vat a orders Buy) (filled_on vat a orders Sell))).0;
     none_below = λ vat a orders v h outcome w. mpeg_least vat a orders outcome w.0 w.1;
     reached = λ vat a orders v h. mpeg_reached vat a orders h.limits;
