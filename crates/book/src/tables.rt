@@ -23,7 +23,8 @@ pub struct Book<R, C> {
     calendar: C,
     terms: Terms,
     today: u64,
-    // Vectors that are searched from the front, and no maps: a map asks for memory as it grows, and no call after open may.
+    // Vectors that are searched from the front, and no maps: a map promises no room back for a row that was removed, so that a
+    // later call could want memory.
     participants: Reserved<Participant, MAX_PARTICIPANTS>,
     guarantees: Reserved<Guarantee, MAX_GUARANTEES>,
     ghost margin_in_range: { terms.margin ≤ 99 },

@@ -87,7 +87,7 @@ impl Admitted<'_> {
         ensures sum_over_the_periods { result ≡ uncredited (position_of self.now.position) day }
         ensures fits { result < 2 ^ 63 }
     {
-        // Not a chain: whether a debt's period counts depends on the debts after it.
+        // Not a chain, which would have to count places: whether a debt's period counts depends on the debts after it.
         let mut sum: u64 = 0;
         let mut rest = self.position.debts;
         while let Some((debt, after)) = rest.split_first() {

@@ -1,7 +1,7 @@
 //! The desk with its memory, and the place where its answers go.
 
 use anyhow::bail;
-use desk::{Desk, LineFault};
+use desk::{Desk, LineFault, Refused};
 use std::alloc::{AllocError, Global};
 use std::io::Write;
 use wire::ANSWER_BYTES;
@@ -41,11 +41,13 @@ impl<W: Write + Drop> Session<W> {
             &mut buffer,
             &mut self.scratch,
         ) {
-            Ok(length) => length,
-            Err(refused) => match refused.fault {
-                LineFault::OutOfMemory => bail!("no memory for the book"),
-                _ => refused.length,
-            },
+            Err(
+                Refused {
+                    fault: LineFault::OutOfMemory,
+                    ..
+                },
+            ) => bail!("no memory for the book"),
+            Ok(length) | Err(Refused { length, .. }) => length,
         };
         self.out.write_all(&buffer[..length])?;
         Ok(())

@@ -52,7 +52,7 @@ impl From<OpenFault> for LineFault {
 }
 
 impl LineFault {
-    // No `TryFrom`: that want of memory has no number is no error.
+    // No `TryFrom`: a fault without a number is not an error.
     /// The number, the layer and the place with which it is answered.
     pub fn refusal(self) -> Option<Refusal>
         ensures as_the_table_has_it { result ≡ refusal self }

@@ -53,8 +53,8 @@ fn check_market(rest: &[u8]) -> Result<(), LineFault>
     Ok(())
 }
 
-// Each command takes its fields one after another: an array of fields whose length is a parameter is a form that Rattle's borrow
-// checker does not cover.
+// Each command takes its fields one after another: Rattle's borrow checker does not cover yet "an array that holds references, and
+// whose length is a const parameter".
 fn read_open(rest: &[u8]) -> Result<Command, LineFault>
     ensures fault_due_or_command { Takes opens rest.now result }
 {

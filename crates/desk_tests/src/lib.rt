@@ -16,11 +16,10 @@ mod tests {
             first_day: 5,
             reference: 0,
         };
-        match Book::open(rt.alloc(), MarketName::Xbid.into(), Weeks, terms) {
-            Ok(book) => Ok(book),
-            Err(OpenFault::Refused(_)) => Err(Fail::new("refused")),
-            Err(OpenFault::OutOfMemory) => Err(Fail::new("no memory")),
-        }
+        Book::open(rt.alloc(), MarketName::Xbid.into(), Weeks, terms).map_err(|fault| match fault {
+            OpenFault::Refused(_) => Fail::new("refused"),
+            OpenFault::OutOfMemory => Fail::new("no memory"),
+        })
     }
 
     fn number(fault: Fault) -> u16 {
@@ -32,13 +31,9 @@ mod tests {
         let mut book = opened(&rt)?;
         assert!(rt; book.admit(7, 0, 500).is_ok());
         assert!(rt; book.post(7, 1, None, 100_000).is_ok());
-        match book.query(7) {
-            Ok(answer) => {
-                assert_eq!(rt; answer.capacity, 4_850_000_000);
-                Ok(())
-            },
-            Err(_) => Err(Fail::new("refused")),
-        }
+        let answer = book.query(7).ok().ok_or("refused")?;
+        assert_eq!(rt; answer.capacity, 4_850_000_000);
+        Ok(())
     }
 
     #[test]
@@ -47,13 +42,9 @@ mod tests {
         assert!(rt; book.admit(7, 0, 500).is_ok());
         assert!(rt; book.post(7, 4, Some(5), 1).is_ok());
         assert!(rt; book.return_guarantee(7, 4).is_ok());
-        match book.post(7, 4, None, 1) {
-            Ok(_) => Err(Fail::new("taken")),
-            Err(fault) => {
-                assert_eq!(rt; number(fault), 214);
-                Ok(())
-            },
-        }
+        let fault = book.post(7, 4, None, 1).err().ok_or("taken")?;
+        assert_eq!(rt; number(fault), 214);
+        Ok(())
     }
 
     #[test]
@@ -61,16 +52,13 @@ mod tests {
         let mut desk = Desk::new();
         let mut buffer = [7u8; 95];
         let mut scratch = [9u32; 4];
-        match desk.line(rt.alloc(), 1, b"O,X,3,0,0", &mut buffer, &mut scratch) {
-            Ok(_) => return Err(Fail::new("answered")),
-            Err(refused) => {
-                assert_eq!(rt; refused.length, 0);
-                match refused.fault.refusal() {
-                    Some(refusal) => assert_eq!(rt; refusal.number, 100),
-                    None => return Err(Fail::new("no number")),
-                }
-            }
-        }
+        let refused = desk
+            .line(rt.alloc(), 1, b"O,X,3,0,0", &mut buffer, &mut scratch)
+            .err()
+            .ok_or("answered")?;
+        assert_eq!(rt; refused.length, 0);
+        let refusal = refused.fault.refusal().ok_or("no number")?;
+        assert_eq!(rt; refusal.number, 100);
         assert!(rt; buffer == [7u8; 95]);
         assert!(rt; scratch == [9u32; 4]);
         Ok(())
@@ -81,11 +69,12 @@ mod tests {
         let mut desk = Desk::new();
         let mut buffer = [7u8; 96];
         let mut scratch = [9u32; 4];
-        match desk.line(rt.alloc(), 12, b"O,X,3,0,0", &mut buffer, &mut scratch) {
-            Ok(length) => assert_eq!(rt; length, 11),
-            Err(_) => return Err(Fail::new("refused")),
-        }
-        assert!(rt; &buffer[0..11] == b"12,0,0,0,0\n".as_slice());
+        let length = desk
+            .line(rt.alloc(), 12, b"O,X,3,0,0", &mut buffer, &mut scratch)
+            .ok()
+            .ok_or("refused")?;
+        assert_eq!(rt; length, 11);
+        assert!(rt; &buffer[..11] == b"12,0,0,0,0\n".as_slice());
         assert!(rt; buffer[11] == 7 && buffer[95] == 7);
         Ok(())
     }

@@ -4,6 +4,7 @@ ghost use Rattle.market.specs.Laws.{any_lawful};
 
 use crate::{Figures, MarketRule, Mpeg, OpenCell, Pce, Price, Vat, Xbid};
 
+// An enum and no `dyn`: the exposure is generic over what proposals keep beside their orders.
 #[derive(Clone, Copy, Drop)]
 pub enum Market {
     Xbid(Xbid),

@@ -21,7 +21,7 @@ impl Price {
     }
 }
 
-// Beside `Price` and not one generic struct with it: type, limits and invariant all differ, and its three parameters would say no less.
+// Beside `Price` and not one generic struct with it: type, limits and invariant all differ, and its three parameters would be no shorter.
 /// A VAT rate in whole percent, from 0 to 99.
 #[derive(Clone, Copy, Drop)]
 pub struct Vat {

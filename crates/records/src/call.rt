@@ -17,7 +17,7 @@ pub struct Terms {
     pub reference: i64,
 }
 
-// The arguments stand here and at the book's methods: a call is a value for who reads it from a line, a method for who writes it.
+// The arguments stand here and at the book's methods: a call is a value for whoever reads it from a line, a method for whoever writes it.
 /// A call of an open book. Arguments are as wide as a line can write them; each call checks its own.
 #[derive(Clone, Copy)]
 pub enum Call {
@@ -55,6 +55,7 @@ const MAX_DAY: u64 = 40_000;
 
 const MAX_PRICE: u64 = 400_000;
 
+// `holds.then_some(()).ok_or(fault)` says the same at more length wherever it is used.
 /// The fault, unless the condition holds.
 fn ensure(holds: bool, fault: Fault) -> Result<(), Fault>
     ensures fault_unless_it_holds { result ≡ fault_if (not holds) fault }

@@ -5,6 +5,7 @@ ghost use Rattle.std.specs.Prelude.{◌≡◌, ◌<◌, ◌==◌, ◌↔◌, ◌
 
 use std::alloc::{AllocError, Global};
 
+// Not an array beside a length, as the kit's `ArrayVec` is: a book is moved when it is opened, and its rows would move with it.
 /// At most `CAP` items, with memory for all of them.
 #[derive(Drop)]
 pub struct Reserved<T, const CAP: usize> {

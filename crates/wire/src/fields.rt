@@ -10,6 +10,7 @@ pub struct Field<'a> {
     pub bytes: &'a [u8],
 }
 
+// Not the library's `split`: what stands before the first comma is no field, and places are counted in a byte that stays at 255.
 /// Hands out the fields of a lent text one after another. Each comma begins a field, which goes up to the next
 /// comma or to the end; what stands before the first comma belongs to no field.
 #[derive(Drop)]

@@ -17,8 +17,8 @@ pub const ANSWER_BYTES: usize = 96;
 pub const NUMBER_BYTES: usize = 20;
 
 /// A text that grows at its front, as far as the longest line, since the last digit of a number is the first to come out.
-// From front to back, with numbers that `itoa::Buffer` prints and an `ArrayString` gathers, 3 million queries took 0.30 s;
-// this way they took 0.19 s.
+// From front to back, with numbers that `itoa::Buffer` prints and an `ArrayString` gathers, 3 million queries took 0.30 s, where a
+// writer with digits by hand took 0.25 s; this way they take 0.22 s.
 #[derive(Drop)]
 pub struct Text {
     bytes: [u8; ANSWER_BYTES],
@@ -89,7 +89,7 @@ impl Text {
     }
 }
 
-/// What a line replies with after its number: an answer or a refusal.
+/// What a line replies with after its number: an answer or a refusal, and nothing else, since no other crate can make a text.
 pub trait Reply {
     // The fields, in order.
     ghost fields: { Self → List (List ℕ) };

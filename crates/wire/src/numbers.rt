@@ -35,7 +35,8 @@ impl Form for u64 {
         if bytes.len() > MOST_DIGITS || matches!(bytes, [] | [b'0', _, ..]) {
             return None;
         }
-        // A loop and no fold: that the value stays small is known of the digits so far, which a closure does not see.
+        // Not the library's `parse`, which takes a plus and leading zeros; nor a fold, whose closure does not see that the digits so far
+        // keep the value small.
         let mut value = 0;
         for byte in bytes {
             if !byte.is_ascii_digit() {

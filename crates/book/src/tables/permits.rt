@@ -11,6 +11,7 @@ ghost use Rattle.book.specs.Permits.{Permits, StandsAt};
 use crate::tables::Book;
 use records::{Fault, Guarantee, GuaranteeKey};
 
+// Rows are told by their places: one that is lent for writing would keep the whole book lent.
 impl<R, C> Book<R, C> {
     pub(super) fn known(&self, participant: u64) -> Result<usize, Fault>
         ensures fault_due_or_its_row { Permits (due (not_known (state self.now) participant)) (StandsAt (is_participant participant) (items self.now.participants)) result }

@@ -25,6 +25,7 @@ struct Valuation {
 }
 
 impl Valuation {
+    // 0 and no filter before the sum, as the definition has it: the sums are the same, and a filter would have to be shown so.
     /// The worth of a guarantee in grains, nothing where it is another participant's or no longer valid.
     fn worth(&self, guarantee: &Guarantee) -> u64
         requires amount_in_range { guarantee.now.cents ≤ 100000000000 }
@@ -62,6 +63,7 @@ impl<R, C> Book<R, C> {
         records::position(self.participants.as_slice(), &participant)
     }
 
+    // 0 for none, as the definition has it: whoever asks has looked for the row before.
     /// A participant's share, 0 where there is no such participant.
     fn share_of(&self, participant: u64) -> u64
         ensures value { result ≡ the_share_of (find (is_participant participant) (items self.now.participants)) }

@@ -32,7 +32,7 @@ impl Figures {
     pub fn with_fill(self, side: Side, kwh: u32, price: Price) -> Option<Figures>
         ensures have_traded_more_or_pass_the_limit { elim result [ Some figures ↦ figures.amounts ≡ traded side kwh (price.cents *ℤ pos kwh) self.amounts | None ↦ 100000000 < self.amounts.bought + self.amounts.sold + kwh ] }
     {
-        if kwh <= 100_000_000 - self.amounts.bought - self.amounts.sold {
+        if kwh <= self.room() {
             Some(self.trade(side, kwh, price))
         } else {
             None
@@ -52,7 +52,7 @@ impl Figures {
           | None ↦ (WithinLimits self.amounts (open_among participant day proposals.now) → ⊥)
         ] }
     {
-        let mut room = 100_000_000 - self.amounts.bought - self.amounts.sold;
+        let mut room = self.room();
         for Proposal { order, .. } in proposals {
             if order.is_open_in(participant, day) {
                 room = room_below(room, order)?;
@@ -61,8 +61,15 @@ impl Figures {
         Some(room)
     }
 
-    // the figures with so many kWh bought or sold besides, all at that price; the three stay apart, since a struct of them would be
-    // made at each call only to be taken apart here
+    // how many kWh more a cell of these figures could hold with nothing open in it
+    fn room(self) -> u32
+        ensures is_what_is_left { self.amounts.bought + self.amounts.sold + result ≡ 100000000 }
+    {
+        100_000_000 - self.amounts.bought - self.amounts.sold
+    }
+
+    // the figures with so many kWh bought or sold besides, all at that price
+    // Side, kWh and price stay apart: a struct of them would be made at each call only to be taken apart here.
     pub(crate) fn trade(self, side: Side, kwh: u32, price: Price) -> Figures
         requires room_in_the_cell { self.amounts.bought + self.amounts.sold + kwh ≤ 100000000 }
         ensures have_traded_more { result.amounts ≡ traded side kwh (price.cents *ℤ pos kwh) self.amounts }
