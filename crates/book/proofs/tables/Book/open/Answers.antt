@@ -1,9 +1,7 @@
-use Rattle.std.proofs.Common.{arith}
+use Rattle.std.proofs.Common.{arith, rules}
 use Rattle.std.proofs.lemmas.Int.{ints}
-use Rattle.records.specs.State.{opened}
 use Rattle.records.proofs.Ranges.{checked_margin, checked_reference, shares_none, amounts_none}
 use Rattle.records.proofs.Refusing.{none_due}
-use Rattle.book.proofs.Positions.{same_tables}
 use Rattle.book.proofs.tables.Book.open.Goals as goal
 
 pub overflow_cast-terms : goal.overflow_cast-terms
@@ -29,7 +27,7 @@ returns g c =
     record {
       empty_on_its_terms_or_refused = (
         none_due _ c.in_ok-check.ensures.fault_due_for_the_input,
-        same_tables (opened c.publish.new.self c.args.calendar c.args.terms) c.in_ok-participants.ensures.holds_nothing c.in_ok-guarantees.ensures.holds_nothing,
+        search rules,
         record { price = _; of_the_terms = omega (arith, ints); replaced = c.publish.ensures.replaces_the_reference },
       );
     }
