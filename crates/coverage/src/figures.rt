@@ -15,6 +15,7 @@ pub struct Figures {
     pub capacity: i64,
 }
 
+// Each of the three says for itself which positions it answers: whoever calls one reads one contract.
 impl Position<'_> {
     /// The three figures; none where the position is past the limits.
     pub fn figures(&self) -> Option<Figures>

@@ -25,6 +25,7 @@ pub enum LineFault {
     OutOfMemory,
 }
 
+// The length goes back beside the fault, since the buffer is the caller's.
 /// A refused line: why, and how many bytes of the refusal line were written.
 #[derive(Clone, Copy)]
 pub struct Refused {

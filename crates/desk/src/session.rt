@@ -24,6 +24,7 @@ pub struct Desk {
     pub(crate) book: Option<Book<Market, Weeks>>,
 }
 
+// That a refused desk is unchanged is said of each step: it is a fact of the step and not of the desk.
 impl Desk {
     /// A desk whose book is not open yet.
     pub fn new() -> Desk

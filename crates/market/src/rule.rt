@@ -6,6 +6,7 @@ ghost use Rattle.market.specs.Cells.{its_orders};
 use crate::{Figures, OpenCell, Price, Vat};
 
 /// Tells what a cell is worth and what it may come to, in grains, while a published reference price stands.
+// A VAT stands beside figures and beside a cell: the rate is the participant's, and neither holds it.
 pub trait MarketRule {
     ghost meaning: { Meaning Self };
 
