@@ -31,7 +31,7 @@ impl Position<'_> {
     }
 }
 
-// That a sum fits 63 bits stands at the three that are turned into signed numbers: a type for it would be opened at once.
+// That a sum fits 63 bits is ensured by the three sums that are turned into signed numbers: a type for it would be opened at once.
 impl Admitted<'_> {
     /// Minus what all debts exceed the credits by: every debt is of day 0 or later.
     pub(crate) fn exposure(&self) -> i64

@@ -25,7 +25,7 @@ pub struct Guarantee {
 }
 
 impl Guarantee {
-    // The rows of the book have days and amounts of another width, and the same one line.
+    // `records::Guarantee` says the same of its own row: neither crate builds on the other, and its days are 64 bits wide.
     /// Whether it may be given to a debt of this trading day.
     pub fn is_valid_on(&self, day: u32) -> bool
         ensures valid_up_to_the_last_day { result ≡ valid self.now day }

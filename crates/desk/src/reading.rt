@@ -20,6 +20,7 @@ fn next<'a>(reader: &mut Reader<'a>) -> Result<Field<'a>, LineFault>
     reader.next().ok_or(LineFault::WrongFieldCount)
 }
 
+// A `match`: here `None` is what is wanted, and no method hands that on.
 /// That no field is left.
 fn end(reader: &mut Reader) -> Result<(), LineFault>
     ensures none_left_or_too_many { Ended reader.old result }
@@ -54,7 +55,7 @@ fn check_market(rest: &[u8]) -> Result<(), LineFault>
 }
 
 // Each command takes its fields one after another: Rattle's borrow checker does not cover yet "an array that holds references, and
-// whose length is a const parameter".
+// whose length is a const parameter", so that no one function can hand out so many fields.
 fn read_open(rest: &[u8]) -> Result<Command, LineFault>
     ensures fault_due_or_command { Takes opens rest.now result }
 {

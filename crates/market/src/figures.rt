@@ -26,7 +26,8 @@ pub struct Figures {
     ghost earned: { unsigned_abs amounts.earned ≤ amounts.sold * 400000 },
 }
 
-// Participant and flow day stay two parts, as in `Order` and the definitions over it: a key of both would be taken apart wherever it came.
+// Participant and flow day are two parts, here and in `is_open_in` and `room_beside`, as in `Order` and the definitions over it: a key
+// of both would be taken apart wherever it came.
 /// A cell of today: its figures, and a table of proposals in which those of its participant and flow day with energy open are its own.
 #[derive(Drop)]
 pub struct OpenCell<'a, D> {

@@ -20,7 +20,7 @@ fn counted_cct(estimate: Price) -> u32
     estimate.cents.max(0).unsigned_abs()
 }
 
-// what is out of balance costs the CCT
+// minus what is out of balance times the CCT
 fn imbalance_value(figures: Figures, estimate: Price) -> CellValue
     ensures is_minus_imbalance_times_cct { result.value ≡ neg_ℤ (pos (imbalance figures.amounts * cct estimate.cents)) }
 {

@@ -19,7 +19,7 @@ pub trait MarketRule {
         ensures is_the_exposure { result ≡ (meaning.valuation self.now).exposure vat.percent cell.now.figures.amounts (its_orders cell.now) };
 
     /// Replaces the reference price.
-    // Each rule does it in one line of its own: a shared body would first have to ask the rule for its price.
+    // No default body: it would need one more method, which lends the rule's price.
     fn publish(&mut self, reference: Price)
         ensures replaces_the_reference { self.new ≡ meaning.published self.old reference };
 

@@ -10,6 +10,7 @@ pub struct Price {
 }
 
 impl Price {
+    // An `if` and no `then`, here and wherever a ghost field rests on a test: the closure would not be told the test.
     pub fn new(cents: i32) -> Option<Price>
         ensures holds_the_cents_or_is_out_of_range { elim result [ Some price ↦ price.cents ≡ cents | None ↦ (PriceRange cents → ⊥) ] }
     {
@@ -21,7 +22,7 @@ impl Price {
     }
 }
 
-// Beside `Price` and not one generic struct with it: type, limits and invariant all differ, and its three parameters would be no shorter.
+// Not one generic struct with `Price`: type, limit and invariant all differ, so that it would take three parameters and be no shorter.
 /// A VAT rate in whole percent, from 0 to 99.
 #[derive(Clone, Copy, Drop)]
 pub struct Vat {

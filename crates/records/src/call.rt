@@ -17,7 +17,8 @@ pub struct Terms {
     pub reference: i64,
 }
 
-// The arguments stand here and at the book's methods: a call is a value for whoever reads it from a line, a method for whoever writes it.
+// The arguments stand here and at the book's methods, by the project's rules: a call is a value for whoever reads it from a line, and a
+// method for whoever writes it.
 /// A call of an open book. Arguments are as wide as a line can write them; each call checks its own.
 #[derive(Clone, Copy)]
 pub enum Call {
@@ -84,6 +85,7 @@ fn check_guarantee(participant: u64, guarantee: u64) -> Result<(), Fault>
     )
 }
 
+// What is due is said of each check by itself: each equals its own part of one definition.
 impl Terms {
     /// The smallest number due for what the terms say by themselves, with its leftmost place.
     pub fn check(self) -> Result<(), Fault>

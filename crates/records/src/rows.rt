@@ -14,7 +14,7 @@ pub struct Participant {
     pub vat: u64,
     /// The share of its guarantees that this market may use, in thousandths.
     pub share: u64,
-    // 0 while none is used: numbers begin at 1.
+    // 0 while none is used: numbers begin at 1, so that one comparison refuses a used number, with no case for none.
     pub last_proposal: u64,
     pub last_guarantee: u64,
 }
@@ -37,7 +37,7 @@ pub struct GuaranteeKey {
 }
 
 impl Guarantee {
-    // The rows of coverage have days and amounts of another width, and the same one line.
+    // `coverage::Guarantee` says the same of its own row: neither crate builds on the other, and its days are 32 bits wide.
     /// Whether it may cover a debt of the trading day.
     pub fn is_valid_on(&self, day: u64) -> bool
         ensures up_to_the_last_day { result ≡ valid day self.now.last_day }

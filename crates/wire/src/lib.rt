@@ -79,7 +79,7 @@ mod tests {
         let length = write_line(&mut buffer, 4, &answer).ok_or("too short")?;
         assert_eq!(rt; length, 28);
         assert!(rt;
-            &buffer[..28] == b"4,0,-4500000000,0,350000000\n".as_slice() && buffer[28] == b'x'
+            &buffer[0..28] == b"4,0,-4500000000,0,350000000\n".as_slice() && buffer[28] == b'x'
         );
         let mut short = [b'x'; 95];
         assert_eq!(rt; write_line(&mut short, 4, &answer), None);
@@ -97,7 +97,7 @@ mod tests {
         let mut buffer = [b'x'; 96];
         let length = write_line(&mut buffer, 5, &refusal).ok_or("too short")?;
         assert_eq!(rt; length, 10);
-        assert!(rt; &buffer[..10] == b"5,218,B,0\n".as_slice() && buffer[10] == b'x');
+        assert!(rt; &buffer[0..10] == b"5,218,B,0\n".as_slice() && buffer[10] == b'x');
         Ok(())
     }
 

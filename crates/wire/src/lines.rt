@@ -17,8 +17,8 @@ pub const ANSWER_BYTES: usize = 96;
 pub const NUMBER_BYTES: usize = 20;
 
 /// A text that grows at its front, as far as the longest line, since the last digit of a number is the first to come out.
-// From front to back, with numbers that `itoa::Buffer` prints and an `ArrayString` gathers, 3 million queries took 0.30 s, where a
-// writer with digits by hand took 0.25 s; this way they take 0.22 s.
+// From front to back, with numbers that `itoa::Buffer` prints and an `ArrayString` gathers, 3 million queries take 0.30 s, more than
+// with digits written by hand (0.25 s); this way they take 0.22 s.
 #[derive(Drop)]
 pub struct Text {
     bytes: [u8; ANSWER_BYTES],
@@ -163,6 +163,7 @@ fn write_front(buffer: &mut [u8], room: usize, text: &[u8]) -> Option<usize>
     Some(text.len())
 }
 
+// The two public writers say for themselves what they leave and write: whoever calls one reads one contract.
 /// Writes a number at the front of a buffer, and says how long it is; `None` where the buffer is too short for some.
 pub fn write_number(buffer: &mut [u8], value: i64) -> Option<usize>
     ensures short_buffer_is_untouched { LeavesShort number_room buffer.old result buffer.new }

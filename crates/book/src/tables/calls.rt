@@ -9,8 +9,7 @@ ghost use Rattle.book.specs.View.{state, SameMemory};
 use crate::tables::Book;
 use records::{Answer, Call, Fault, Guarantee, Participant};
 
-// What a call promises of the book stands in its own contract, also that the memory stays, which follows from the tables' type: one
-// word for the three lines would hide them.
+// Each call says for itself what it promises of the book: one word for the three lines would hide them.
 impl<R, C> Book<R, C> {
     /// Admits a participant with its VAT in percent and its share in thousandths.
     pub fn admit(&mut self, participant: u64, vat: u64, share: u64) -> Result<Answer, Fault>

@@ -49,6 +49,7 @@ impl<R, C> Book<R, C> {
         Ok(at)
     }
 
+    // Participant and number are the call's arguments; the key of both is made where a row is compared with it.
     /// For a guarantee that may be returned, where its row stands.
     pub(super) fn may_return(&self, participant: u64, number: u64) -> Result<usize, Fault>
         ensures fault_due_or_its_row { Permits (due (not_returnable (state self.now) participant number)) (StandsAt (is_guarantee participant number) (items self.now.guarantees)) result }

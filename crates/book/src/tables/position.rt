@@ -25,7 +25,7 @@ struct Valuation {
 }
 
 impl Valuation {
-    // 0 and no filter before the sum, as the definition has it: the sums are the same, and a filter would have to be shown so.
+    // 0 for a guarantee that does not count, and no filter before the sum: so the definition counts it, guarantee by guarantee.
     /// The worth of a guarantee in grains, nothing where it is another participant's or no longer valid.
     fn worth(&self, guarantee: &Guarantee) -> u64
         requires amount_in_range { guarantee.now.cents ≤ 100000000000 }

@@ -69,7 +69,7 @@ impl Figures {
     }
 
     // the figures with so many kWh bought or sold besides, all at that price
-    // Side, kWh and price stay apart: a struct of them would be made at each call only to be taken apart here.
+    // Side, kWh and price are three arguments: a struct of them would be made at each call only to be taken apart here.
     pub(crate) fn trade(self, side: Side, kwh: u32, price: Price) -> Figures
         requires room_in_the_cell { self.amounts.bought + self.amounts.sold + kwh ≤ 100000000 }
         ensures have_traded_more { result.amounts ≡ traded side kwh (price.cents *ℤ pos kwh) self.amounts }
