@@ -1,10 +1,10 @@
 -- Sums over a list, of which a test may leave terms out.
-use Rattle.std.proofs.Common.{◌≡◌, ℕ, ◌+◌, ◌<◌, ◌≤◌, Bool, true, false, ◌&&◌, List, [], ◌∷◌, get_or, filter, sum_by, sym, refl, ap, ◌∙◌, arith}
+use Rattle.std.proofs.Common.{◌≡◌, ℕ, ◌+◌, ◌<◌, ◌≤◌, Bool, true, false, ◌&&◌, List, [], ◌∷◌, get_or, sum_by, sym, refl, ap, ◌∙◌, arith}
 use Rattle.std.specs.List.{AllByRecursion}
 use Rattle.std.proofs.lemmas.Bool.Decides.{nat_tests}
 use Rattle.std.proofs.lemmas.List.Elements.{recursion_from_All}
 use Rattle.std.proofs.lemmas.List.Recursion.{is_sum_by}
-use Rattle.std.proofs.lemmas.List.Sums.{sum_by-cons}
+use Rattle.std.proofs.lemmas.List.Sums.{sum_by-le-sum_by}
 use Rattle.coverage.specs.Allocation.{total, amount_if}
 
 -- An amount under a test.
@@ -66,7 +66,6 @@ module _ {X : Type 0} where
   pub total_is : (f : X → ℕ) (xs : List X) → total f xs ≡ sum_by f xs
   total_is f = is_sum_by (total f) f refl (λ _ _. refl)
 
-  -- a sum with a test is the sum over what passes it
-  pub total_passing : (test : X → Bool) (f : X → ℕ) (xs : List X) → sum_by f (filter test xs) ≡ total (λ x. amount_if (test x) (f x)) xs
-  total_passing test f [] = refl
-  total_passing test f (x ∷ xs) = grind (arith, nat_tests, sum_by-cons f x (filter test xs), total_passing test f xs)
+  -- what passes a test comes to no more than all
+  pub passing_le : (test : X → Bool) (f : X → ℕ) (xs : List X) → sum_by (λ x. amount_if (test x) (f x)) xs ≤ sum_by f xs
+  passing_le test f xs = sum_by-le-sum_by (λ x. amount_if (test x) (f x)) f xs (λ x. grind (arith, nat_tests))

@@ -1,8 +1,8 @@
 //! A position that was found within the limits: its sums, which fit 63 bits, and the figures that are made of them.
-ghost use Rattle.std.specs.Prelude.{◌≡◌, ◌^◌, ◌<◌, ◌≤◌, ◌==◌, ◌&&◌, nat_le, sum_by, filter, is_some, IfSome, Decides};
+ghost use Rattle.std.specs.Prelude.{◌≡◌, ◌^◌, ◌<◌, ◌≤◌, sum_by, is_some, IfSome, Decides};
 ghost use Rattle.coverage.specs.Admission.{Admissible, position_of};
-ghost use Rattle.coverage.specs.Allocation.{valid};
-ghost use Rattle.coverage.specs.Capacity.{excess, owes_in, uncredited, exposure, capacity_at, capacity, SmallestOfTheDays};
+ghost use Rattle.coverage.specs.Allocation.{amount_if};
+ghost use Rattle.coverage.specs.Capacity.{owed, credited, guaranteed, excess, owes_in, uncredited, exposure, capacity_at, capacity, SmallestOfTheDays};
 
 use crate::position::Position;
 use crate::rows::Debt;
@@ -71,14 +71,13 @@ impl Admitted<'_> {
 
     /// What the guarantees that are valid on a day are worth.
     fn guaranteed_on(&self, day: u32) -> u64
-        ensures sum_of_the_valid { result ≡ sum_by (λ g. g.worth) (filter (λ g. valid g day) self.now.position.guarantees.now) }
+        ensures sum_of_the_valid { result ≡ guaranteed self.now.position.guarantees.now day }
         ensures fits { result < 2 ^ 63 }
     {
         self.position
             .guarantees
             .iter()
-            .filter(|guarantee| guarantee.is_valid_on(day))
-            .map(|guarantee| guarantee.worth)
+            .map(|guarantee| amount_if(guarantee.is_valid_on(day), guarantee.worth))
             .sum()
     }
 
@@ -109,27 +108,33 @@ impl Admitted<'_> {
 
     /// What the debts of a period that are of a day or later come to.
     fn owed_from(&self, day: u32, period: u32) -> u64
-        ensures sum_of_the_due { result ≡ sum_by (λ x. x.grains) (filter (λ x. x.period == period && nat_le day x.day) self.now.position.debts.now) }
+        ensures sum_of_the_due { result ≡ owed self.now.position.debts.now day period }
     {
         self.position
             .debts
             .iter()
-            .filter(|debt| debt.period == period && day <= debt.day)
-            .map(|debt| debt.grains)
+            .map(|debt| amount_if(debt.period == period && day <= debt.day, debt.grains))
             .sum()
     }
 
     /// What the credits of a period come to.
     fn credited_in(&self, period: u32) -> u64
-        ensures sum_of_the_period { result ≡ sum_by (λ c. c.grains) (filter (λ c. c.period == period) self.now.position.credits.now) }
+        ensures sum_of_the_period { result ≡ credited self.now.position.credits.now period }
     {
         self.position
             .credits
             .iter()
-            .filter(|credit| credit.period == period)
-            .map(|credit| credit.grains)
+            .map(|credit| amount_if(credit.period == period, credit.grains))
             .sum()
     }
+}
+
+// Not a `filter` before the sum: it was compiled to a loop in a loop, and a capacity took up to half as long again.
+/// An amount where the test passes, and else 0.
+fn amount_if(test: bool, amount: u64) -> u64
+    ensures all_of_it_or_nothing { result ≡ amount_if test amount }
+{
+    if test { amount } else { 0 }
 }
 
 /// Whether one of the debts is of a period.
