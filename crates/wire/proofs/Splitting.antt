@@ -29,13 +29,13 @@ unfolding fields
 count_commas = is_count_by (λ xs. length (fields xs)) (λ b. b == comma) refl (λ x xs. grind (arith, nat_tests))
 
 -- the bytes before the first comma are the front of the text
-take_before : (xs : List ℕ) → take (length (before xs)) xs ≡ before xs
+pub take_before : (xs : List ℕ) → take (length (before xs)) xs ≡ before xs
 unfolding before
 take_before [] = refl
 take_before (x ∷ xs) = grind (arith, nat_tests, take_before xs)
 
 -- and no field begins in them
-drop_before : (xs : List ℕ) → fields (drop (length (before xs)) xs) ≡ fields xs
+pub drop_before : (xs : List ℕ) → fields (drop (length (before xs)) xs) ≡ fields xs
 unfolding before fields
 drop_before [] = refl
 drop_before (x ∷ xs) = grind (arith, nat_tests, drop_before xs)
@@ -47,7 +47,7 @@ no_comma [] h = refl
 no_comma (x ∷ xs) h = grind (arith, nat_tests, no_comma xs)
 
 -- the first comma begins the first field
-at_comma : (xs : List ℕ) → length (before xs) < length xs → fields xs ≡ before (drop (suc (length (before xs))) xs) ∷ fields (drop (suc (length (before xs))) xs)
+pub at_comma : (xs : List ℕ) → length (before xs) < length xs → fields xs ≡ before (drop (suc (length (before xs))) xs) ∷ fields (drop (suc (length (before xs))) xs)
 unfolding before fields
 at_comma [] h = absurd (omega arith)
 at_comma (x ∷ xs) h = grind (arith, nat_tests, at_comma xs)

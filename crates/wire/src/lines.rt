@@ -4,7 +4,7 @@ ghost use Rattle.std.specs.Fmt.{signed_decimal};
 ghost use Rattle.std.specs.List.{AllByRecursion};
 ghost use Rattle.wire.specs.Fields.{comma, Plain};
 ghost use Rattle.wire.specs.Lines.{status_digit, layer_letter, answer_fields, refusal_fields, line_of, line_feed, after_commas};
-ghost use Rattle.wire.specs.Lines.{line_room, number_room, LeavesShort, WritesFront, FallsInto, ReadsBack};
+ghost use Rattle.wire.specs.Lines.{line_room, number_room, LeavesShort, WritesFront, FallsInto, ReadsBack, fronted};
 
 use itoa::{Buffer, write_digits};
 use records::{Answer, Layer, Refusal, Status};
@@ -148,22 +148,19 @@ fn layer_letter(layer: Layer) -> u8
     }
 }
 
-/// Writes a text over the front of a buffer, and says how long it is; `None` where the buffer is too short for some.
-fn write_front(buffer: &mut [u8], room: usize, text: &[u8]) -> Option<usize>
-    requires fits { length text.now ≤ room }
-    ensures short_buffer_is_untouched { LeavesShort room buffer.old result buffer.new }
-    ensures text_stands_at_the_front { WritesFront room text.now buffer.old result buffer.new }
-    ensures text_fits_the_least_buffer { IfSome result (λ n. n ≤ room) }
-    ensures text_is_that_front { IfSome result (λ n. take n buffer.new ≡ text.now) }
+/// Writes a text over the front of a buffer that has room for it, and says how long the text is.
+fn write_front(buffer: &mut [u8], text: &[u8]) -> usize
+    requires fits { length text.now ≤ length buffer.old }
+    ensures length_of_the_text { result ≡ length text.now }
+    ensures text_stands_at_the_front { buffer.new ≡ fronted text.now buffer.old }
+    ensures text_is_that_front { take result buffer.new ≡ text.now }
 {
-    if buffer.len() < room {
-        return None;
-    }
     buffer[..text.len()].copy_from_slice(text);
-    Some(text.len())
+    text.len()
 }
 
-// The two public writers say for themselves what they leave and write: whoever calls one reads one contract.
+// The two public writers say for themselves what they leave and write: whoever calls one reads one contract. Each looks at the
+// buffer first, so that nothing is made for one that is too short.
 /// Writes a number at the front of a buffer, and says how long it is; `None` where the buffer is too short for some.
 pub fn write_number(buffer: &mut [u8], value: i64) -> Option<usize>
     ensures short_buffer_is_untouched { LeavesShort number_room buffer.old result buffer.new }
@@ -171,7 +168,10 @@ pub fn write_number(buffer: &mut [u8], value: i64) -> Option<usize>
     ensures number_fits_the_least_buffer { IfSome result (λ n. n ≤ number_room) }
     ensures reads_back { IfSome result (λ n. ReadsBack value (take n buffer.new)) }
 {
-    write_front(buffer, NUMBER_BYTES, Buffer::new().format(value).as_bytes())
+    if buffer.len() < NUMBER_BYTES {
+        return None;
+    }
+    Some(write_front(buffer, Buffer::new().format(value).as_bytes()))
 }
 
 /// Writes the line of a reply at the front of a buffer, and says how long it is; `None` where the buffer is too short.
@@ -181,7 +181,10 @@ pub fn write_line<R: Reply>(buffer: &mut [u8], number: u32, reply: &R) -> Option
     ensures line_fits_the_least_buffer { IfSome result (λ n. n ≤ line_room) }
     ensures line_falls_into_its_fields { OnSome result (FallsInto (line_of number (R.fields reply.now)) number (R.fields reply.now)) }
 {
+    if buffer.len() < ANSWER_BYTES {
+        return None;
+    }
     let mut line = reply.text();
     line.prepend_decimal(u64::from(number));
-    write_front(buffer, ANSWER_BYTES, line.as_slice())
+    Some(write_front(buffer, line.as_slice()))
 }

@@ -1,17 +1,33 @@
 //! The first line of a text, and the beginning of a line that comes in parts.
 
 ghost use Rattle.std.specs.Prelude.{◌≡◌, [], ◌++◌, length, take, IfOk, ◌==◌};
+ghost use Rattle.memchr.specs.Find.{IsFirstByte, is_byte};
+ghost use Rattle.wire.specs.Lines.{line_feed};
 ghost use Rattle.wire.specs.Stream.{FirstLine, kept};
 
 use crate::stream::LineStart;
+use memchr::memchr;
 use reserved::Reserved;
 use std::alloc::{AllocError, Global};
+
+/// So many bytes are looked at one by one first, since a search by vectors takes longer than that where the line is short.
+const NEAR_BYTES: usize = 16;
+
+/// Where the first line feed stands; `None` where there is none.
+fn line_end(text: &[u8]) -> Option<usize>
+    ensures first_line_feed { IsFirstByte (is_byte line_feed) text.now result }
+{
+    let near = &text[..text.len().min(NEAR_BYTES)];
+    near.iter()
+        .position(|byte| *byte == b'\n')
+        .or_else(|| memchr(b'\n', text))
+}
 
 /// The first line of a text and what follows its line feed; `None` where there is no line feed.
 pub fn first_line(text: &[u8]) -> Option<(&[u8], &[u8])>
     ensures splits_at_the_first_line_feed { FirstLine text.now result }
 {
-    let end = text.iter().position(|byte| *byte == b'\n')?;
+    let end = line_end(text)?;
     Some((&text[..end], &text[end + 1..]))
 }
 
