@@ -22,11 +22,11 @@ found_where_placed fits xs None e = ap is_some (nowhere fits xs (sym e))
 found_where_placed fits [] (Some i) e = absurd (let z : ◌≡◌ {A = ℕ} 0 1 = cc in omega arith)
 found_where_placed fits (x ∷ xs) (Some i) e = ap is_some ((stands fits (x ∷ xs) i (sym e)).found x)
 
--- the participant's row is the one that is read where it stands
-pub row_found : {fits : Participant → Bool} {rows : List Participant} {at : ℕ} → StandsAt fits rows at → find fits rows ≡ Some (get_or rows at nobody)
-row_found {fits} {rows} {at} here = (stands fits rows at here.first).found nobody
-
 module _ {X : Type 0} {fits : X → Bool} {rows : List X} {at : ℕ} (here : StandsAt fits rows at) where
+  -- the row that is read where it stands is the row found, whatever a read past the end would show
+  pub row_found : (past : X) → find fits rows ≡ Some (get_or rows at past)
+  row_found past = (stands fits rows at here.first).found past
+
   -- the row read where it stands, changed there, is the first row that fits changed
   pub row_changed : (f : X → X) (row : X) → row ≡ get_or rows at row → set rows at (f row) ≡ change fits f rows
   row_changed f row is = ap (λ x. set rows at (f x)) is ∙ sym ((stands fits rows at here.first).changed f row)
@@ -40,10 +40,10 @@ pub guarantee_or_fault : {R C : Type 0} (s : State R C) (participant guarantee :
     o ≡ place (is_guarantee participant guarantee) s.guarantees →
     Permits (due (not_returnable s participant guarantee)) (StandsAt (is_guarantee participant guarantee) s.guarantees) (ok_or o UnknownGuarantee)
 guarantee_or_fault s participant guarantee None here e =
-    let found = row_found here in
+    let found = row_found here nobody in
     let none = nowhere (is_guarantee participant guarantee) s.guarantees (sym e) in
     rw (found, none)
 guarantee_or_fault s participant guarantee (Some i) here e =
-    let found = row_found here in
+    let found = row_found here nobody in
     let there = found_where_placed (is_guarantee participant guarantee) s.guarantees (Some i) e in
     (rw (found, there), record { first = sym e; within = (stands (is_guarantee participant guarantee) s.guarantees i (sym e)).within })
